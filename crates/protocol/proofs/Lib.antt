@@ -1,0 +1,7 @@
+pub mod Logs
+pub mod Packets
+pub mod Sound
+pub mod Shows
+pub mod OfficeSteps
+pub mod WardenSteps
+pub mod ReaderSteps
