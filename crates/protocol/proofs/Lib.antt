@@ -5,3 +5,4 @@ pub mod Shows
 pub mod OfficeSteps
 pub mod WardenSteps
 pub mod ReaderSteps
+pub mod Follows
