@@ -29,7 +29,9 @@ impl Quorum {
         ensures { λ r. ⌜ BySome r (now (self .entry) .wardens ≤ party .0) (λ w. (party .0 < now (self .entry) .wardens) × (w .index ≡ party .0)) ⌝ }
     {
         if party.0 < self.wardens as u32 {
-            Some(WardenId { index: party.0 as u8 })
+            Some(WardenId {
+                index: party.0 as u8,
+            })
         } else {
             None
         }
