@@ -1,0 +1,4 @@
+pub mod Views
+pub mod Standings
+pub mod Desks
+pub mod Readers
