@@ -6,3 +6,11 @@ pub mod OfficeSteps
 pub mod WardenSteps
 pub mod ReaderSteps
 pub mod Follows
+pub mod Ways
+pub mod Writings
+pub mod Rounds
+pub mod Measures
+pub mod Readings
+pub mod Cases
+pub mod Runs
+pub mod Laws

@@ -187,7 +187,7 @@ module _ (n f : ℕ) (liar : ℕ → Bool) (k j : ℕ) where
           stands = stand n f liar w reach (z .reader .round)
 
       -- a round that read nothing: something was being written meanwhile
-      doubts-right : pick n f (z .reader .replies) n ≡ Nothing → Few n f liar j k (z .log) → Busy j k (z .log)
+      pub doubts-right : pick n f (z .reader .replies) n ≡ Nothing → Few n f liar j k (z .log) → Busy j k (z .log)
       doubts-right picked few = (
         w .office .edition,
         w .office .value (w .office .edition),

@@ -6,3 +6,7 @@ pub mod Reader
 pub mod Log
 pub mod Promise
 pub mod System
+pub mod Progress
+pub mod Laws
+pub mod Runs
+pub mod Cases
