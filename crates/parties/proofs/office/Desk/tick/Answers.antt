@@ -1,0 +1,13 @@
+use Rattle.protocol.specs.Runs.{OfficeActs}
+use Rattle.protocol.proofs.Runs.{office-ticks}
+use Rattle.parties.specs.Desks.{desk-of}
+use Rattle.parties.proofs.Along.{along}
+use Rattle.parties.proofs.office.Desk.tick.Needs as need
+
+pub returns : need.returns
+returns c =
+    let desk = desk-of (c .args .self .now) in
+    record {
+      did = c .resend .ensures;
+      runs = λ n f least. along (λ next sends outcome. OfficeActs n f desk next sends outcome) (c .resend .ensures) (office-ticks n f least desk);
+    }
