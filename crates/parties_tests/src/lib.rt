@@ -1,0 +1,3 @@
+// The parties at their edges.
+#[cfg(test)]
+mod tests;
