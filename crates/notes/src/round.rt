@@ -5,7 +5,7 @@ ghost use Prim.Native.Nat.{ℕ, _<_, _≤_};
 ghost use lib.Dec.{ltb};
 ghost use Rattle.std.specs.Options.{Cases as BySome};
 ghost use Rattle.register.specs.Note.{same, Note as AnyNote};
-ghost use Rattle.register.specs.Rule.{silence, reply, votes, later, readable, IsRead, pick};
+ghost use Rattle.register.specs.Rule.{silence, reply, votes, later, readable, IsRead, pick, Found, Nothing};
 ghost use Rattle.notes.specs.Views.{note-of, replies-of, reading-of};
 use crate::ids::RoundNumber;
 use crate::note::Note;
@@ -42,6 +42,13 @@ impl Round {
         if self.heard.contains(warden) {
             return self;
         }
+        self.with(warden, note)
+    }
+
+    fn with(self, warden: WardenId, note: Note) -> Round
+        ensures number { λ r. ⌜ r .number ≡ self .number ⌝ }
+        ensures replies { λ r. ⌜ replies-of r ≡ reply (warden .index) (note-of note) (replies-of self) ⌝ }
+    {
         let mut told = self.told;
         told[warden.index as usize] = note;
         Round {
@@ -58,18 +65,25 @@ impl Round {
         self.heard.has_place(place)
     }
 
+    fn told_by(&self, place: usize) -> &Note
+        requires { ⌜ place < 63 ⌝ }
+        ensures { λ r. ⌜ note-of (now r) ≡ replies-of (now (self .entry)) .told place ⌝ }
+    {
+        &self.told[place]
+    }
+
     fn told_this(&self, place: usize, note: &Note) -> bool
         requires { ⌜ place < 63 ⌝ }
         ensures { λ r. ⌜ r ≡ (replies-of (now (self .entry)) .heard place && same (replies-of (now (self .entry)) .told place) (note-of (now (note .entry)))) ⌝ }
     {
-        self.has_told(place) && self.told[place].is_same(note)
+        self.has_told(place) && self.told_by(place).is_same(note)
     }
 
     fn told_later(&self, place: usize, note: &Note) -> bool
         requires { ⌜ place < 63 ⌝ }
         ensures { λ r. ⌜ r ≡ (replies-of (now (self .entry)) .heard place && ltb (note-of (now (note .entry)) .edition) (replies-of (now (self .entry)) .told place .edition)) ⌝ }
     {
-        self.has_told(place) && self.told[place].edition.is_above(note.edition)
+        self.has_told(place) && self.told_by(place).edition.is_above(note.edition)
     }
 
     /// How many told exactly this note.
@@ -112,20 +126,34 @@ impl Round {
         ensures computed { λ r. ⌜ reading-of r ≡ pick (now (quorum .entry) .wardens) (now (quorum .entry) .faults) (replies-of (now (self .entry))) (now (quorum .entry) .wardens) ⌝ }
         ensures rule { λ r. ⌜ BySome r ((x : AnyNote) → IsRead (now (quorum .entry) .wardens) (now (quorum .entry) .faults) (replies-of (now (self .entry))) x → ⊥) (λ x. IsRead (now (quorum .entry) .wardens) (now (quorum .entry) .faults) (replies-of (now (self .entry))) (note-of (now x))) ⌝ }
     {
+        self.first_read(quorum)
+    }
+
+    fn first_read(&self, quorum: &Quorum) -> Option<&Note>
+        ensures { λ r. ⌜ reading-of r ≡ pick (now (quorum .entry) .wardens) (now (quorum .entry) .faults) (replies-of (now (self .entry))) (now (quorum .entry) .wardens) ⌝ }
+    {
+        let place = self.place_of_read(quorum);
+        if place < quorum.wardens {
+            Some(self.told_by(place as usize))
+        } else {
+            None
+        }
+    }
+
+    // The place of the first warden whose note is read, or else the number of wardens.
+    fn place_of_read(&self, quorum: &Quorum) -> u8
+        ensures { λ r. ⌜ pick (now (quorum .entry) .wardens) (now (quorum .entry) .faults) (replies-of (now (self .entry))) (now (quorum .entry) .wardens) ≡ cond (ltb r (now (quorum .entry) .wardens)) (Found (replies-of (now (self .entry)) .told r)) Nothing ⌝ }
+    {
         let mut place = quorum.wardens;
         'told: for i in 0..quorum.wardens {
             if !self.has_told(i as usize) {
                 continue 'told;
             }
-            if self.is_read(quorum, &self.told[i as usize]) {
+            if self.is_read(quorum, self.told_by(i as usize)) {
                 place = i;
                 break 'told;
             }
         }
-        if place < quorum.wardens {
-            Some(&self.told[place as usize])
-        } else {
-            None
-        }
+        place
     }
 }
