@@ -1,0 +1,4 @@
+pub mod Orders
+pub mod Refines
+pub mod Numbers
+pub mod Room

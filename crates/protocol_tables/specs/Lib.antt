@@ -1,0 +1,5 @@
+pub mod Keep
+pub mod Warden
+pub mod Office
+pub mod System
+pub mod Progress
