@@ -69,7 +69,11 @@ sends-of sends.Nothing = rules.Nothing
 sends-of (sends.One to m) = rules.One (to .0) (message-of m)
 sends-of (sends.Each m) = rules.Each (message-of m)
 
--- a call did what the rules say: its state afterwards, what it sends, what it came to
+-- what a call did: its state afterwards, what it sends, what it came to
+abbrev pub made : {S D : Type 0} → S → rules.Sends → steps.Outcome D → steps.Step S D
+made next sends outcome = record { next = next; sends = sends; outcome = outcome }
+
+-- a call did what the rules say
 pub record Did {S D : Type 0} (next : S) (sends : rules.Sends) (outcome : steps.Outcome D) (step : steps.Step S D) : Type 0 where
   pub next-is : next ≡ step .next
   pub sends-is : sends ≡ step .sends

@@ -4,7 +4,7 @@ ghost use Prim.Native.Nat.{ℕ, _*_, _<_};
 ghost use Rattle.notes.specs.Views.{bytes-of};
 ghost use Rattle.protocol.specs.Office.{empty-desk, write-on, office-tick, office-on, took-on};
 ghost use Rattle.protocol.specs.Runs.{OfficeHears, OfficeActs};
-ghost use Rattle.parties.specs.Views.{message-of, sends-of, office-outcome, Did};
+ghost use Rattle.parties.specs.Views.{message-of, sends-of, office-outcome, made, Did};
 ghost use Rattle.parties.specs.Desks.{desk-of};
 ghost use Rattle.parties.specs.declared.message.Sends.the-variants.{Nothing};
 ghost use Rattle.parties.specs.declared.step.OfficeOutcome.the-variants.{Refused};
@@ -44,7 +44,7 @@ impl Desk {
     /// The next edition is to have this value.
     pub fn write(&mut self, value: Value) -> OfficeStep
         ensures did { λ r. ⌜ Did (desk-of (now (self .exit))) (sends-of (r .sends)) (office-outcome (r .outcome)) (write-on (desk-of (now (self .entry))) (bytes-of value)) ⌝ }
-        ensures runs { λ r. ⌜ ((n f : ℕ) → 4 * f < n → OfficeActs n f (desk-of (now (self .entry))) (desk-of (now (self .exit))) (sends-of (r .sends)) (office-outcome (r .outcome))) ⌝ }
+        ensures runs { λ r. ⌜ ((n f : ℕ) → 4 * f < n → OfficeActs n f (desk-of (now (self .entry))) (made (desk-of (now (self .exit))) (sends-of (r .sends)) (office-outcome (r .outcome)))) ⌝ }
     {
         self.begin(value)
     }
@@ -71,7 +71,7 @@ impl Desk {
     /// It is time to send again.
     pub fn tick(&self) -> OfficeStep
         ensures did { λ r. ⌜ Did (desk-of (now (self .entry))) (sends-of (r .sends)) (office-outcome (r .outcome)) (office-tick (desk-of (now (self .entry)))) ⌝ }
-        ensures runs { λ r. ⌜ ((n f : ℕ) → 4 * f < n → OfficeActs n f (desk-of (now (self .entry))) (desk-of (now (self .entry))) (sends-of (r .sends)) (office-outcome (r .outcome))) ⌝ }
+        ensures runs { λ r. ⌜ ((n f : ℕ) → 4 * f < n → OfficeActs n f (desk-of (now (self .entry))) (made (desk-of (now (self .entry))) (sends-of (r .sends)) (office-outcome (r .outcome)))) ⌝ }
     {
         self.resend()
     }
@@ -95,7 +95,7 @@ impl Desk {
     /// What it does with a message from a party.
     pub fn on(&mut self, quorum: &Quorum, from: PartyId, message: Message) -> OfficeStep
         ensures did { λ r. ⌜ Did (desk-of (now (self .exit))) (sends-of (r .sends)) (office-outcome (r .outcome)) (office-on (now (quorum .entry) .wardens) (now (quorum .entry) .faults) (desk-of (now (self .entry))) (from .0) (message-of message)) ⌝ }
-        ensures runs { λ r. ⌜ OfficeHears (now (quorum .entry) .wardens) (now (quorum .entry) .faults) (desk-of (now (self .entry))) (desk-of (now (self .exit))) (from .0) (message-of message) (sends-of (r .sends)) (office-outcome (r .outcome)) ⌝ }
+        ensures runs { λ r. ⌜ OfficeHears (now (quorum .entry) .wardens) (now (quorum .entry) .faults) (desk-of (now (self .entry))) (from .0) (message-of message) (made (desk-of (now (self .exit))) (sends-of (r .sends)) (office-outcome (r .outcome))) ⌝ }
     {
         self.receive(quorum, from, message)
     }

@@ -5,7 +5,7 @@ ghost use Rattle.notes.specs.Views.{note-of};
 ghost use Rattle.protocol.specs.Step.{Done};
 ghost use Rattle.protocol.specs.Reader.{ReaderDone, new-reader, read-on, reader-tick, reader-on, told-on, begin-round, decided, settle-round};
 ghost use Rattle.protocol.specs.Runs.{ReaderHears, ReaderActs};
-ghost use Rattle.parties.specs.Views.{message-of, sends-of, reader-outcome, Did};
+ghost use Rattle.parties.specs.Views.{message-of, sends-of, reader-outcome, made, Did};
 ghost use Rattle.parties.specs.Readers.{reader-of};
 ghost use Rattle.parties.specs.declared.message.Sends.the-variants.{Nothing};
 ghost use Rattle.parties.specs.declared.step.ReaderOutcome.the-variants.{Refused};
@@ -76,7 +76,7 @@ impl Reader {
     pub fn read(&mut self, note: NoteId) -> ReaderStep
         ensures quorum { λ _. ⌜ now (self .exit) .quorum ≡ now (self .entry) .quorum ⌝ }
         ensures did { λ r. ⌜ Did (reader-of (now (self .exit))) (sends-of (r .sends)) (reader-outcome (r .outcome)) (read-on (reader-of (now (self .entry))) (note .0)) ⌝ }
-        ensures runs { λ r. ⌜ ReaderActs (now (self .entry) .quorum .wardens) (now (self .entry) .quorum .faults) (reader-of (now (self .entry))) (reader-of (now (self .exit))) (sends-of (r .sends)) (reader-outcome (r .outcome)) ⌝ }
+        ensures runs { λ r. ⌜ ReaderActs (now (self .entry) .quorum .wardens) (now (self .entry) .quorum .faults) (reader-of (now (self .entry))) (made (reader-of (now (self .exit))) (sends-of (r .sends)) (reader-outcome (r .outcome))) ⌝ }
     {
         self.begin(note, MORE_ROUNDS, ReaderOutcome::Asked)
     }
@@ -85,7 +85,7 @@ impl Reader {
     pub fn tick(&mut self) -> ReaderStep
         ensures quorum { λ _. ⌜ now (self .exit) .quorum ≡ now (self .entry) .quorum ⌝ }
         ensures did { λ r. ⌜ Did (reader-of (now (self .exit))) (sends-of (r .sends)) (reader-outcome (r .outcome)) (reader-tick (now (self .entry) .quorum .wardens) (now (self .entry) .quorum .faults) (reader-of (now (self .entry)))) ⌝ }
-        ensures runs { λ r. ⌜ ReaderActs (now (self .entry) .quorum .wardens) (now (self .entry) .quorum .faults) (reader-of (now (self .entry))) (reader-of (now (self .exit))) (sends-of (r .sends)) (reader-outcome (r .outcome)) ⌝ }
+        ensures runs { λ r. ⌜ ReaderActs (now (self .entry) .quorum .wardens) (now (self .entry) .quorum .faults) (reader-of (now (self .entry))) (made (reader-of (now (self .exit))) (sends-of (r .sends)) (reader-outcome (r .outcome))) ⌝ }
     {
         self.ask_on()
     }
@@ -114,7 +114,7 @@ impl Reader {
     pub fn on(&mut self, from: PartyId, note: NoteId, message: Message) -> ReaderStep
         ensures quorum { λ _. ⌜ now (self .exit) .quorum ≡ now (self .entry) .quorum ⌝ }
         ensures did { λ r. ⌜ Did (reader-of (now (self .exit))) (sends-of (r .sends)) (reader-outcome (r .outcome)) (reader-on (now (self .entry) .quorum .wardens) (now (self .entry) .quorum .faults) (reader-of (now (self .entry))) (from .0) (note .0) (message-of message)) ⌝ }
-        ensures runs { λ r. ⌜ ReaderHears (now (self .entry) .quorum .wardens) (now (self .entry) .quorum .faults) (reader-of (now (self .entry))) (reader-of (now (self .exit))) (from .0) (note .0) (message-of message) (sends-of (r .sends)) (reader-outcome (r .outcome)) ⌝ }
+        ensures runs { λ r. ⌜ ReaderHears (now (self .entry) .quorum .wardens) (now (self .entry) .quorum .faults) (reader-of (now (self .entry))) (from .0) (note .0) (message-of message) (made (reader-of (now (self .exit))) (sends-of (r .sends)) (reader-outcome (r .outcome))) ⌝ }
     {
         self.receive(from, note, message)
     }

@@ -7,7 +7,7 @@ ghost use Rattle.protocol.specs.Message.{Nothing, One, Took};
 ghost use Rattle.protocol.specs.Step.{Refused};
 ghost use Rattle.protocol.specs.Warden.{warden-on, ask-on};
 ghost use Rattle.protocol.specs.Runs.{WardenHears};
-ghost use Rattle.parties.specs.Views.{message-of, sends-of, warden-outcome, Did};
+ghost use Rattle.parties.specs.Views.{message-of, sends-of, warden-outcome, made, Did};
 ghost use Rattle.parties.specs.Standings.{standing-of};
 use crate::message::Message;
 use crate::message::Sends;
@@ -60,7 +60,7 @@ impl Warden {
     /// What it does with a message from a party.
     pub fn on(&mut self, from: PartyId, message: Message) -> WardenStep
         ensures did { λ r. ⌜ Did (note-of (now (self .exit) .held)) (sends-of (r .sends)) (warden-outcome (r .outcome)) (warden-on (note-of (now (self .entry) .held)) (from .0) (message-of message)) ⌝ }
-        ensures runs { λ r. ⌜ ((n f : ℕ) → 4 * f < n → WardenHears n f (note-of (now (self .entry) .held)) (note-of (now (self .exit) .held)) (from .0) (message-of message) (sends-of (r .sends)) (warden-outcome (r .outcome))) ⌝ }
+        ensures runs { λ r. ⌜ ((n f : ℕ) → 4 * f < n → WardenHears n f (note-of (now (self .entry) .held)) (from .0) (message-of message) (made (note-of (now (self .exit) .held)) (sends-of (r .sends)) (warden-outcome (r .outcome)))) ⌝ }
     {
         self.receive(from, message)
     }

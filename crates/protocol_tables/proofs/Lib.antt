@@ -2,3 +2,4 @@ pub mod Orders
 pub mod Refines
 pub mod Numbers
 pub mod Room
+pub mod Lifts

@@ -27,7 +27,7 @@ use Rattle.protocol_tables.specs.System as T
 use Rattle.protocol_tables.proofs.Orders.{Ordered, started, write-ordered, hear-ordered}
 
 -- what the wardens have, after one of them has changed
-at-put : (i : ℕ) (d : Keep Note) (w : ℕ → Keep Note) → _≡_ {A = ℕ → ℕ → Note} (put i (d .at) (λ i′. w i′ .at)) (λ i′. put i d w i′ .at)
+pub at-put : (i : ℕ) (d : Keep Note) (w : ℕ → Keep Note) → _≡_ {A = ℕ → ℕ → Note} (put i (d .at) (λ i′. w i′ .at)) (λ i′. put i d w i′ .at)
 at-put i d w = fun-ext (put-both (λ _ (a : ℕ → Note) (b : Keep Note). a ≡ b .at) i (d .at) d (λ i′. w i′ .at) w refl (λ _. refl))
 
 module _ (n f : ℕ) (liar : ℕ → Bool) (s : System) where

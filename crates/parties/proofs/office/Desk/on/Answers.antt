@@ -12,5 +12,5 @@ returns c =
     let quorum = c .args .quorum .now in
     record {
       did = c .receive .ensures;
-      runs = along (λ next sends outcome. OfficeHears (quorum .wardens) (quorum .faults) desk next (c .args .from .0) message sends outcome) (c .receive .ensures) (office-hears (quorum .wardens) (quorum .faults) (quorum .few) desk (c .args .from .0) message);
+      runs = along (OfficeHears (quorum .wardens) (quorum .faults) desk (c .args .from .0) message) (c .receive .ensures) (office-hears (quorum .wardens) (quorum .faults) (quorum .few) desk (c .args .from .0) message);
     }

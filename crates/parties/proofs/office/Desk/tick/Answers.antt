@@ -9,5 +9,5 @@ returns c =
     let desk = desk-of (c .args .self .now) in
     record {
       did = c .resend .ensures;
-      runs = λ n f least. along (λ next sends outcome. OfficeActs n f desk next sends outcome) (c .resend .ensures) (office-ticks n f least desk);
+      runs = λ n f least. along (OfficeActs n f desk) (c .resend .ensures) (office-ticks n f least desk);
     }

@@ -10,5 +10,5 @@ returns c =
     let desk = desk-of (c .args .self .now) in
     record {
       did = c .begin .ensures;
-      runs = λ n f least. along (λ next sends outcome. OfficeActs n f desk next sends outcome) (c .begin .ensures) (office-writes n f least desk (bytes-of (c .args .value)));
+      runs = λ n f least. along (OfficeActs n f desk) (c .begin .ensures) (office-writes n f least desk (bytes-of (c .args .value)));
     }

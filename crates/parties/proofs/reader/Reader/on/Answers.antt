@@ -13,5 +13,5 @@ returns c =
     record {
       quorum = c .receive .ensures .quorum;
       did = c .receive .ensures .did;
-      runs = along (λ next sends outcome. ReaderHears (quorum .wardens) (quorum .faults) reader next (c .args .from .0) (c .args .note .0) message sends outcome) (c .receive .ensures .did) (reader-hears (quorum .wardens) (quorum .faults) (quorum .few) reader (c .args .from .0) (c .args .note .0) message);
+      runs = along (ReaderHears (quorum .wardens) (quorum .faults) reader (c .args .from .0) (c .args .note .0) message) (c .receive .ensures .did) (reader-hears (quorum .wardens) (quorum .faults) (quorum .few) reader (c .args .from .0) (c .args .note .0) message);
     }

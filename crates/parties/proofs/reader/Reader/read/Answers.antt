@@ -14,5 +14,5 @@ returns c =
     record {
       quorum = c .begin .ensures .quorum;
       did = did;
-      runs = along (λ next sends outcome. ReaderActs (quorum .wardens) (quorum .faults) reader next sends outcome) did (reader-reads (quorum .wardens) (quorum .faults) (quorum .few) reader (c .args .note .0));
+      runs = along (ReaderActs (quorum .wardens) (quorum .faults) reader) did (reader-reads (quorum .wardens) (quorum .faults) (quorum .few) reader (c .args .note .0));
     }

@@ -11,5 +11,5 @@ returns c =
     record {
       quorum = c .ask-on .ensures .quorum;
       did = c .ask-on .ensures .did;
-      runs = along (λ next sends outcome. ReaderActs (quorum .wardens) (quorum .faults) reader next sends outcome) (c .ask-on .ensures .did) (reader-ticks (quorum .wardens) (quorum .faults) (quorum .few) reader);
+      runs = along (ReaderActs (quorum .wardens) (quorum .faults) reader) (c .ask-on .ensures .did) (reader-ticks (quorum .wardens) (quorum .faults) (quorum .few) reader);
     }

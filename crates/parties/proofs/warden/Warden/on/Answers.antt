@@ -11,5 +11,5 @@ returns c =
     let message = message-of (c .args .message) in
     record {
       did = c .receive .ensures;
-      runs = λ n f least. along (λ next sends outcome. WardenHears n f held next (c .args .from .0) message sends outcome) (c .receive .ensures) (warden-hears n f least held (c .args .from .0) message);
+      runs = λ n f least. along (WardenHears n f held (c .args .from .0) message) (c .receive .ensures) (warden-hears n f least held (c .args .from .0) message);
     }
