@@ -14,3 +14,4 @@ pub mod Readings
 pub mod Cases
 pub mod Runs
 pub mod Laws
+pub mod Samples

@@ -10,3 +10,4 @@ pub mod Progress
 pub mod Laws
 pub mod Runs
 pub mod Cases
+pub mod Samples

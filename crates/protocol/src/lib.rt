@@ -3,6 +3,7 @@ ghost use Rattle.protocol.specs.System.{Holds};
 ghost use Rattle.protocol.specs.Laws.{GoodLogs};
 ghost use Rattle.protocol.specs.Progress.{WritingEnds, RoundEnds, ReadingEnds, ReadingAnswers, Measured};
 ghost use Rattle.protocol.specs.Cases.{Worked};
+ghost use Rattle.protocol.specs.Samples.{Sample, BadLogs};
 
 /// Whatever happens, the log of what came to pass meets the promise.
 pub fn promise_holds() -> u8
@@ -56,6 +57,20 @@ pub fn missing_falls() -> u8
 /// The worked cases come to what they should.
 pub fn cases_work() -> u8
     ensures { λ _. ⌜ Worked ⌝ }
+{
+    0
+}
+
+/// There is a run that ends in a reading of which the promise's hypothesis holds.
+pub fn readings_exist() -> u8
+    ensures { λ _. ⌜ Sample ⌝ }
+{
+    0
+}
+
+/// Logs with a stale or a made-up reading, with unsure while nothing is written, with two values under one edition, or with an answer that nobody asked for are not good.
+pub fn bad_logs_fail() -> u8
+    ensures { λ _. ⌜ BadLogs ⌝ }
 {
     0
 }
