@@ -1,0 +1,4 @@
+// Things by the number of a note: what a warden has of each note, and the office.
+pub mod kept;
+pub mod table;
+pub mod unplaced;

@@ -1,0 +1,142 @@
+// What is done with a table.
+ghost use mathlib.Core.Bool.{true, false};
+ghost use mathlib.Core.Path.{_≡_};
+ghost use Prim.Native.Nat.{ℕ, _+_, _<_, _≤_};
+ghost use lib.ListN.{length, getD, set};
+ghost use Rattle.std.specs.Holes.{inserted};
+ghost use Rattle.std.specs.Of.Vec.{vec-items};
+ghost use Rattle.std.specs.Results.{isOk};
+ghost use Rattle.std.specs.declared.option.Option.the-variants.{Some, None};
+ghost use Rattle.std.specs.declared.result.Result.the-variants.{Ok, Err};
+ghost use Rattle.register.specs.Count.{put};
+ghost use Rattle.notes_table.specs.Places.{Finds};
+ghost use Rattle.notes_table.specs.Views.{map-of, many, had, Same, Replaced, Puts, Roomy};
+pub use crate::kept::table::Table;
+use crate::unplaced::Unplaced;
+use notes::ids::NoteId;
+use std::alloc::AllocError;
+use std::alloc::Global;
+
+/// The most numbers that a table has.
+pub const MOST: usize = 4096;
+
+impl<T: Copy> Table<T> {
+    /// A table that has nothing.
+    pub fn new(heap: Global) -> Table<T>
+        ensures map { λ r. ⌜ map-of r ≡ (λ _. None) ⌝ }
+        ensures many { λ r. ⌜ many r ≡ 0 ⌝ }
+    {
+        Table {
+            numbers: Vec::new(heap),
+            items: Vec::new(heap),
+        }
+    }
+
+    /// How many numbers are had.
+    pub fn count(&self) -> usize
+        ensures { λ r. ⌜ r ≡ many (now (self .entry)) ⌝ }
+    {
+        self.numbers.len()
+    }
+
+    /// What is had under a number.
+    pub fn get(&self, number: NoteId) -> Option<T>
+        ensures { λ r. ⌜ r ≡ map-of (now (self .entry)) (number .0) ⌝ }
+    {
+        let Ok(place) = self.find(number) else {
+            return None;
+        };
+        Some(self.at(place))
+    }
+
+    // The place of a number, or else the one that it would have.
+    fn find(&self, number: NoteId) -> Result<usize, usize>
+        ensures { λ r. ⌜ Finds (vec-items (now (self .entry) .numbers)) (number .0) r ⌝ }
+    {
+        for (i, n) in self.numbers.iter().enumerate() {
+            if *n == number.0 {
+                return Ok(i);
+            }
+            if *n > number.0 {
+                return Err(i);
+            }
+        }
+        Err(self.numbers.len())
+    }
+
+    fn at(&self, place: usize) -> T
+        requires { ⌜ place < many (now self) ⌝ }
+        ensures { λ r. ⌜ r ≡ getD (vec-items (now (self .entry) .items)) place r ⌝ }
+    {
+        self.items[place]
+    }
+
+    /// Has the item under the number from now on, whatever was had under it.
+    pub fn put(&mut self, number: NoteId, item: T) -> Result<(), Unplaced>
+        ensures { λ r. ⌜ Puts (number .0) item (now (self .entry)) (now (self .exit)) r ⌝ }
+    {
+        match self.find(number) {
+            Ok(place) => {
+                self.replace(place, item);
+                Ok(())
+            }
+            Err(place) => self.add(place, number, item),
+        }
+    }
+
+    fn replace(&mut self, place: usize, item: T)
+        requires { ⌜ place < many (now self) ⌝ }
+        ensures numbers { λ _. ⌜ vec-items (now (self .exit) .numbers) ≡ vec-items (now (self .entry) .numbers) ⌝ }
+        ensures items { λ _. ⌜ vec-items (now (self .exit) .items) ≡ set (vec-items (now (self .entry) .items)) place item ⌝ }
+    {
+        self.items[place] = item;
+    }
+
+    // Puts the item under a number that is not had, if there may be one more.
+    fn add(&mut self, place: usize, number: NoteId, item: T) -> Result<(), Unplaced>
+        requires place { ⌜ Finds (vec-items (now self .numbers)) (number .0) (Err place) ⌝ }
+        requires fresh { ⌜ had (now self) (number .0) ≡ false ⌝ }
+        ensures { λ r. ⌜ Puts (number .0) item (now (self .entry)) (now (self .exit)) r ⌝ }
+    {
+        if self.count() >= MOST {
+            return Err(Unplaced::Full);
+        }
+        self.insert(place, number, item)
+    }
+
+    // The same, if there is memory for one more.
+    fn insert(&mut self, place: usize, number: NoteId, item: T) -> Result<(), Unplaced>
+        requires place { ⌜ Finds (vec-items (now self .numbers)) (number .0) (Err place) ⌝ }
+        requires fresh { ⌜ had (now self) (number .0) ≡ false ⌝ }
+        requires few { ⌜ many (now self) < 4096 ⌝ }
+        ensures { λ r. ⌜ Puts (number .0) item (now (self .entry)) (now (self .exit)) r ⌝ }
+    {
+        if self.reserve().is_err() {
+            return Err(Unplaced::Memory);
+        }
+        self.insert_reserved(place, number, item);
+        Ok(())
+    }
+
+    // Makes room for one more.
+    fn reserve(&mut self) -> Result<(), AllocError>
+        ensures numbers { λ _. ⌜ vec-items (now (self .exit) .numbers) ≡ vec-items (now (self .entry) .numbers) ⌝ }
+        ensures items { λ _. ⌜ vec-items (now (self .exit) .items) ≡ vec-items (now (self .entry) .items) ⌝ }
+        ensures room { λ r. ⌜ (isOk r ≡ true → Roomy (now (self .exit))) ⌝ }
+    {
+        self.numbers.reserve(1)?;
+        self.items.reserve(1)
+    }
+
+    // Both insertions find the room that was made, so that there are never more numbers than items.
+    fn insert_reserved(&mut self, place: usize, number: NoteId, item: T)
+        requires place { ⌜ Finds (vec-items (now self .numbers)) (number .0) (Err place) ⌝ }
+        requires few { ⌜ many (now self) < 4096 ⌝ }
+        requires room { ⌜ Roomy (now self) ⌝ }
+        ensures map { λ _. ⌜ map-of (now (self .exit)) ≡ put (number .0) (Some item) (map-of (now (self .entry))) ⌝ }
+        ensures many { λ _. ⌜ many (now (self .exit)) ≡ many (now (self .entry)) + 1 ⌝ }
+    {
+        let _ = self.numbers.insert(place, number.0);
+        let _ = self.items.insert(place, item);
+    }
+}
