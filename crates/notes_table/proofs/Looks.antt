@@ -1,6 +1,6 @@
 -- What is found among numbers in rising order, before and after something is put there.
 -- Assumes nothing.
-use mathlib.Core.Path.{_≡_, sym, ap, fun-ext, _∙_}
+use mathlib.Core.Path.{_≡_, refl, sym, ap, fun-ext, _∙_}
 use mathlib.Core.Bool.{true}
 use mathlib.Core.List.{List, [], _∷_}
 use mathlib.Core.Logic.{⊎-elim}
@@ -38,17 +38,25 @@ nowhere (n ∷ ns) k never = (ne-eqb k n (λ e. never 0 (omega arith) (sym e)), 
 missing : (ns : List ℕ) (k i : ℕ) → Finds ns k (Err i) → Missing eqb k ns
 missing ns k i (within, below, above) = nowhere ns k (λ j h is. ⊎-elim (λ l. omega (arith, below j l)) (λ l. omega (arith, above j l h)) (cases-lt j i))
 
+pub look-none : {A : Type 0} → look {A = A} [] [] ≡ (λ _. None)
+unfolding look
+look-none = refl
+
 module _ {A : Type 0} (ns : List ℕ) (ys : List A) (k i : ℕ) where
   pub found : (d : A) → Rising ns → length ys ≡ length ns → Finds ns k (Ok i) → look ns ys k ≡ Some (getD ys i d)
+  unfolding look
   found d rising pairs place = lookup-hit eqb k d ns ys i (hit ns k i rising place) (omega (arith, place .0))
 
   pub absent : Finds ns k (Err i) → look ns ys k ≡ None
+  unfolding look
   absent place = lookup-missing eqb k ns ys (missing ns k i place)
 
   pub look-set : (w : A) → Rising ns → length ys ≡ length ns → Finds ns k (Ok i) → look ns (set ys i w) ≡ put k (Some w) (look ns ys)
+  unfolding look
   look-set w rising pairs place = fun-ext (λ q. lookup-set eqb turned alike k q w ns ys i (hit ns k i rising place) (omega (arith, place .0)))
 
   pub look-inserted : (w : A) → length ys ≡ length ns → Finds ns k (Err i) → look (inserted ns i k) (inserted ys i w) ≡ put k (Some w) (look ns ys)
+  unfolding look
   look-inserted w pairs place = fun-ext (λ q. lookup-inserted eqb turned alike k q w i ns ys (missing ns k i place) (place .0) (omega (arith, place .0)))
 
 pub rising-inserted : (ns : List ℕ) (k i : ℕ) → Rising ns → Finds ns k (Err i) → Rising (inserted ns i k)

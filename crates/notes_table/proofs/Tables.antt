@@ -3,11 +3,10 @@
 use mathlib.Core.Path.{_≡_, sym, ap, _∙_}
 use mathlib.Core.Bool.{true, false}
 use Prim.Native.Nat.{ℕ, _+_, _<_}
-use lib.ListN.{length, set}
-use Rattle.std.specs.Holes.{inserted}
+use lib.ListN.{length, getD, set}
 use Rattle.std.specs.Of.Vec.{vec-items}
 use Rattle.std.specs.Options.{isSome}
-use Rattle.std.specs.declared.option.Option.the-variants.{Some}
+use Rattle.std.specs.declared.option.Option.the-variants.{Some, None}
 use Rattle.std.specs.declared.result.Result.the-variants.{Ok, Err}
 use Rattle.std.proofs.shelf.Tests.{both-ways, cond-true, cond-false}
 use Rattle.register.specs.Count.{put}
@@ -17,10 +16,17 @@ use Rattle.notes_table.specs.declared.kept.table.Table.{Table}
 use Rattle.notes_table.proofs.Looks.{found, absent, look-set}
 
 module _ {T : Type 0} (t : Table T) (k i : ℕ) where
-  pub fresh : Finds (vec-items (t .numbers)) k (Err i) → had t k ≡ false
-  fresh place = ap isSome (absent (vec-items (t .numbers)) (vec-items (t .items)) k i place)
+  module _ (place : Finds (vec-items (t .numbers)) k (Err i)) where
+    pub got-none : None ≡ map-of t k
+    got-none = sym (absent (vec-items (t .numbers)) (vec-items (t .items)) k i place)
+
+    pub fresh : had t k ≡ false
+    fresh = ap isSome (sym got-none)
 
   module _ (w : T) (place : Finds (vec-items (t .numbers)) k (Ok i)) where
+    pub got : w ≡ getD (vec-items (t .items)) i w → Some w ≡ map-of t k
+    got is = ap Some is ∙ sym (found (vec-items (t .numbers)) (vec-items (t .items)) k i w (t .rising) (t .pairs) place)
+
     held : had t k ≡ true
     held = ap isSome (found (vec-items (t .numbers)) (vec-items (t .items)) k i w (t .rising) (t .pairs) place)
 

@@ -20,5 +20,5 @@ Finds ns k (Ok i) = (i < length ns) × (getD ns i 0 ≡ k)
 Finds ns k (Err i) = (i ≤ length ns) × ((j : ℕ) → j < i → getD ns j 0 < k) × ((j : ℕ) → i ≤ j → j < length ns → k < getD ns j 0)
 
 -- what stands beside the first k, if k is among the numbers
-abbrev pub look : {A : Type 0} → List ℕ → List A → ℕ → Option A
+unfoldable pub look : {A : Type 0} → List ℕ → List A → ℕ → Option A
 look = lookup eqb

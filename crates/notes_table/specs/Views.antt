@@ -1,6 +1,6 @@
 -- A table as a finite map from numbers.
 -- Assumes nothing.
-use mathlib.Core.Bool.{Bool, false, cond}
+use mathlib.Core.Bool.{Bool, true, false, cond}
 use mathlib.Core.Path.{_≡_}
 use Prim.Native.Nat.{ℕ, _+_, _<_}
 use lib.ListN.{length}
@@ -35,6 +35,11 @@ Same t u = (map-of u ≡ map-of t) × (many u ≡ many t)
 -- u has w under the number k, and else what t has
 abbrev pub Replaced : {T : Type 0} → ℕ → T → Table T → Table T → Type 0
 Replaced k w t u = (map-of u ≡ put k (Some w) (map-of t)) × (many u ≡ many t)
+
+-- what comes of replacing by w what t has under the number k: the answer, and the table u afterwards
+abbrev pub Sets : {T : Type 0} → ℕ → T → Table T → Table T → Bool → Type 0
+Sets k w t u true = Replaced k w t u × (had t k ≡ true)
+Sets k w t u false = Same t u × (had t k ≡ false)
 
 -- what comes of putting w under the number k into t: the answer, and the table u afterwards
 abbrev pub Puts : {T : Type 0} → ℕ → T → Table T → Table T → Result (Unit {0}) Unplaced → Type 0

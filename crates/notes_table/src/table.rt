@@ -3,14 +3,20 @@ ghost use mathlib.Core.Bool.{true, false};
 ghost use mathlib.Core.Path.{_≡_};
 ghost use Prim.Native.Nat.{ℕ, _+_, _<_, _≤_};
 ghost use lib.ListN.{length, getD, set};
+ghost use ghost.Atoms.{sem};
+ghost use denote.Follow.{follows-so};
+ghost use denote.Ref.{name};
+ghost use Rattle.std.specs.Changed.{nameOf};
 ghost use Rattle.std.specs.Holes.{inserted};
 ghost use Rattle.std.specs.Of.Vec.{vec-items};
+ghost use Rattle.std.specs.Options.{isSome, mapped};
 ghost use Rattle.std.specs.Results.{isOk};
 ghost use Rattle.std.specs.declared.option.Option.the-variants.{Some, None};
 ghost use Rattle.std.specs.declared.result.Result.the-variants.{Ok, Err};
 ghost use Rattle.register.specs.Count.{put};
 ghost use Rattle.notes_table.specs.Places.{Finds};
-ghost use Rattle.notes_table.specs.Views.{map-of, many, had, Same, Replaced, Puts, Roomy};
+ghost use Rattle.notes_table.specs.Views.{map-of, many, had, Same, Replaced, Sets, Puts, Roomy};
+ghost use Rattle.notes_table.specs.contracts.kept.table.Table.{the-row};
 pub use crate::kept::table::Table;
 use crate::unplaced::Unplaced;
 use notes::ids::NoteId;
@@ -47,6 +53,29 @@ impl<T: Copy> Table<T> {
             return None;
         };
         Some(self.at(place))
+    }
+
+    /// What is had under a number, to be written.
+    pub fn get_mut(&mut self, number: NoteId) -> Option<&mut T>
+        ensures { λ r. sem 𝓤 H A (follows-so (the-row T·row) T·row (name (self .entry)) (nameOf r) (λ w t. isSome r ≡ true → Replaced (number .0) w (now (self .entry)) t) (λ t. t ≡ now (self .entry))) ∗ ⌜ mapped now r ≡ map-of (now (self .entry)) (number .0) ⌝ }
+    {
+        let Ok(place) = self.find(number) else {
+            return None;
+        };
+        Some(&mut self.items[place])
+    }
+
+    /// Replaces what is had under a number, and says whether there was anything.
+    pub fn set(&mut self, number: NoteId, item: T) -> bool
+        ensures { λ r. ⌜ Sets (number .0) item (now (self .entry)) (now (self .exit)) r ⌝ }
+    {
+        match self.get_mut(number) {
+            Some(place) => {
+                *place = item;
+                true
+            }
+            None => false,
+        }
     }
 
     // The place of a number, or else the one that it would have.
