@@ -5,8 +5,8 @@ use Prim.Native.Nat.{ℕ}
 use lib.Dec.{ltb}
 use Rattle.register.specs.Note.{Note}
 use Rattle.protocol.specs.Message.{Message, Take, Took, Ask, Told}
-use Rattle.parties.specs.declared.warden.Standing.{Standing}
-use Rattle.parties.specs.declared.warden.Standing.the-variants.{Above, NotAbove}
+use Rattle.parties.specs.declared.slot.Standing.{Standing}
+use Rattle.parties.specs.declared.slot.Standing.the-variants.{Above, NotAbove}
 
 -- the edition that a message speaks of; one that asks speaks of the one had
 abbrev pub spoken : Note → Message → ℕ

@@ -1,7 +1,7 @@
-// The office, a warden and a reader, each as what it does when something comes to it. For now a warden and the office have one note.
+// What the office and a warden do about one note, and a reader, each as a step when something comes to it.
+pub mod desk;
 pub mod message;
-pub mod office;
 pub mod reader;
 pub mod refusal;
+pub mod slot;
 pub mod step;
-pub mod warden;

@@ -10,13 +10,13 @@ use notes::quorum::Quorum;
 use notes::value::Value;
 use parties::message::Message;
 use parties::message::Sends;
-use parties::office::Desk;
+use parties::desk::Desk;
 use parties::reader::Reader;
 use parties::refusal::Refusal;
 use parties::step::OfficeOutcome;
 use parties::step::ReaderOutcome;
 use parties::step::WardenOutcome;
-use parties::warden::Warden;
+use parties::slot::Slot;
 use std::test::*;
 
 fn quorum(wardens: u8, faults: u8) -> Result<Quorum, Fail> {
@@ -156,7 +156,7 @@ fn a_value_has_up_to_64_bytes() -> Result<(), Fail> {
 
 #[test]
 fn a_warden_takes_what_is_above_alone() -> Result<(), Fail> {
-    let mut warden = Warden::new();
+    let mut warden = Slot::new();
     let office = PartyId(OFFICE);
     let step = warden.on(office, Message::Take(note(0, b"x")?));
     check(warden_number(step.outcome) == 2)?;
@@ -184,7 +184,7 @@ fn a_warden_takes_what_is_above_alone() -> Result<(), Fail> {
 
 #[test]
 fn a_warden_takes_from_the_office_alone_and_tells_anybody() -> Result<(), Fail> {
-    let mut warden = Warden::new();
+    let mut warden = Slot::new();
     for from in [0, 62, 64, 65, u32::MAX] {
         let step = warden.on(PartyId(from), Message::Take(note(1, b"x")?));
         check(warden_number(step.outcome) == 1)?;

@@ -1,4 +1,4 @@
-// The office, for one note.
+// The office's place for one note.
 ghost use mathlib.Core.Path.{_≡_};
 ghost use Prim.Native.Nat.{ℕ, _*_, _<_};
 ghost use Rattle.notes.specs.Views.{bytes-of};

@@ -3,7 +3,7 @@ use Rattle.protocol.specs.Runs.{WardenHears}
 use Rattle.protocol.proofs.Runs.{warden-hears}
 use Rattle.parties.specs.Views.{message-of}
 use Rattle.parties.proofs.Along.{along}
-use Rattle.parties.proofs.warden.Warden.on.Needs as need
+use Rattle.parties.proofs.slot.Slot.on.Needs as need
 
 pub returns : need.returns
 returns c =

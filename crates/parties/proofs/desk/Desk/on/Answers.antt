@@ -3,7 +3,7 @@ use Rattle.protocol.proofs.Runs.{office-hears}
 use Rattle.parties.specs.Desks.{desk-of}
 use Rattle.parties.specs.Views.{message-of}
 use Rattle.parties.proofs.Along.{along}
-use Rattle.parties.proofs.office.Desk.on.Needs as need
+use Rattle.parties.proofs.desk.Desk.on.Needs as need
 
 pub returns : need.returns
 returns c =

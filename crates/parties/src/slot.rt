@@ -1,4 +1,4 @@
-// A warden, for one note.
+// A warden's place for one note.
 ghost use mathlib.Core.Path.{_≡_};
 ghost use Prim.Native.Nat.{ℕ, _*_, _<_};
 ghost use Rattle.register.specs.Note.{none};
@@ -20,9 +20,9 @@ use notes::ids::PartyId;
 use notes::ids::RoundNumber;
 use notes::note::Note;
 
-/// It has one note; at first it has nothing.
+/// What it has of the note; at first nothing.
 #[derive(Clone, Copy)]
-pub struct Warden {
+pub struct Slot {
     pub held: Note,
 }
 
@@ -33,11 +33,11 @@ pub enum Standing {
     NotAbove,
 }
 
-impl Warden {
-    pub fn new() -> Warden
+impl Slot {
+    pub fn new() -> Slot
         ensures { λ r. ⌜ note-of (r .held) ≡ none ⌝ }
     {
-        Warden { held: Note::none() }
+        Slot { held: Note::none() }
     }
 
     /// A message of which `Ask` speaks of no edition.

@@ -2,7 +2,7 @@ use Rattle.protocol.specs.Runs.{OfficeActs}
 use Rattle.protocol.proofs.Runs.{office-ticks}
 use Rattle.parties.specs.Desks.{desk-of}
 use Rattle.parties.proofs.Along.{along}
-use Rattle.parties.proofs.office.Desk.tick.Needs as need
+use Rattle.parties.proofs.desk.Desk.tick.Needs as need
 
 pub returns : need.returns
 returns c =

@@ -3,7 +3,7 @@ use Rattle.protocol.specs.Runs.{OfficeActs}
 use Rattle.protocol.proofs.Runs.{office-writes}
 use Rattle.parties.specs.Desks.{desk-of}
 use Rattle.parties.proofs.Along.{along}
-use Rattle.parties.proofs.office.Desk.write.Needs as need
+use Rattle.parties.proofs.desk.Desk.write.Needs as need
 
 pub returns : need.returns
 returns c =

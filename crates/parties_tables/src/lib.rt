@@ -1,0 +1,3 @@
+// The warden and the office, with their tables of notes.
+pub mod no_memory;
+pub mod warden;
