@@ -1,2 +1,4 @@
 mod Looks
+mod Counted
 pub mod Tables
+mod Lawful

@@ -9,6 +9,7 @@ use native.Mathlib.Omega.{arith}
 use lib.Dec.{eqb}
 use lib.ListN.{length, getD, set}
 use Rattle.std.specs.Holes.{inserted}
+use Rattle.std.specs.Options.{isSome}
 use Rattle.std.specs.declared.option.Option.the-variants.{Some, None}
 use Rattle.std.specs.declared.result.Result.the-variants.{Ok, Err}
 use Rattle.std.proofs.shelf.Edits.{length-inserted, getD-inserted-below, getD-inserted-at, getD-inserted-above}
@@ -58,6 +59,10 @@ module _ {A : Type 0} (ns : List ℕ) (ys : List A) (k i : ℕ) where
   pub look-inserted : (w : A) → length ys ≡ length ns → Finds ns k (Err i) → look (inserted ns i k) (inserted ys i w) ≡ put k (Some w) (look ns ys)
   unfolding look
   look-inserted w pairs place = fun-ext (λ q. lookup-inserted eqb turned alike k q w i ns ys (missing ns k i place) (place .0) (omega (arith, place .0)))
+
+pub held : {A : Type 0} (ns : List ℕ) (ys : List A) (k i : ℕ) → Rising ns → length ys ≡ length ns → Finds ns k (Ok i) → isSome (look ns ys k) ≡ true
+held ns [] k i rising pairs place = absurd (omega (arith, place .0))
+held ns (y ∷ ys) k i rising pairs place = ap isSome (found ns (y ∷ ys) k i y rising pairs place)
 
 pub rising-inserted : (ns : List ℕ) (k i : ℕ) → Rising ns → Finds ns k (Err i) → Rising (inserted ns i k)
 rising-inserted ns k i rising (within, below, above) a b less end =

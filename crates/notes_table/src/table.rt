@@ -52,7 +52,7 @@ impl<T: Copy> Table<T> {
         let Ok(place) = self.find(number) else {
             return None;
         };
-        Some(self.at(place))
+        Some(*self.at(place))
     }
 
     /// What is had under a number, to be written.
@@ -93,11 +93,11 @@ impl<T: Copy> Table<T> {
         Err(self.numbers.len())
     }
 
-    fn at(&self, place: usize) -> T
+    fn at(&self, place: usize) -> &T
         requires { ⌜ place < many (now self) ⌝ }
-        ensures { λ r. ⌜ r ≡ getD (vec-items (now (self .entry) .items)) place r ⌝ }
+        ensures { λ r. ⌜ now r ≡ getD (vec-items (now (self .entry) .items)) place (now r) ⌝ }
     {
-        self.items[place]
+        &self.items[place]
     }
 
     /// Has the item under the number from now on, whatever was had under it.

@@ -1,6 +1,7 @@
 use mathlib.Core.Path.{refl}
 use Rattle.std.specs.Of.Vec.{vec-items}
 use Rattle.std.proofs.shelf.Tests.{false≢true}
+use Rattle.notes_table.specs.Views.{many}
 use Rattle.notes_table.proofs.Looks.{look-set}
 use Rattle.notes_table.proofs.Tables.{got, got-none}
 use Rattle.notes_table.proofs.kept.table.Table.get_mut.Needs as need
@@ -15,6 +16,6 @@ returns g c =
     let k = c .args .number .0 in
     let i = c .in-Ok .place in
     let place = c .in-Ok .ensures tt in (
-      (refl, λ w _. (look-set (vec-items (t .numbers)) (vec-items (t .items)) k i w (t .rising) (t .pairs) place, refl), refl),
+      (refl, λ w _. (look-set (vec-items (t .numbers)) (vec-items (t .items)) k i w (t .rising) (t .pairs) place, refl {a = many t}), refl),
       got t k i (c .index-mut .result .now) place (c .index-mut .ensures .value),
     )
