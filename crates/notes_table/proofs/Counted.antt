@@ -33,12 +33,12 @@ one-more zero k p l new = absurd (omega arith)
 one-more (suc n) k p l new =
     ⊎-elim
     (λ (e : n ≡ k).
-      let rest : count n (put k true p) ≡ count n p = agree n (put k true p) p (λ i below. rw (ne-eqb i k (λ is. omega arith)) refl) in
-      let here : p n ≡ false = ap p e ∙ new in
-      rw (eq-eqb n k e, here) (omega arith))
+    let rest : count n (put k true p) ≡ count n p = agree n (put k true p) p (λ i below. rw (ne-eqb i k (λ is. omega arith)) refl) in
+    let here : p n ≡ false = ap p e ∙ new in
+    rw (eq-eqb n k e, here) (omega arith))
     (λ (ne : n ≡ k → ⊥).
-      let rest : count n (put k true p) ≡ count n p + 1 = one-more n k p (omega arith) new in
-      rw (ne-eqb n k ne) (omega arith))
+    let rest : count n (put k true p) ≡ count n p + 1 = one-more n k p (omega arith) new in
+    rw (ne-eqb n k ne) (omega arith))
     (cases-eq n k)
 
 split : {A : Type 0} (b : Bool) (y : A) (o : Option A) → isSome (cond b (Some y) o) ≡ cond b true (isSome o)

@@ -1,0 +1,3 @@
+// Tables at their edges.
+#[cfg(test)]
+mod tests;
