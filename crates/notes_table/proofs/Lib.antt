@@ -1,4 +1,4 @@
 mod Looks
 mod Counted
-pub mod Tables
-mod Lawful
+mod Tables
+pub mod Lawful

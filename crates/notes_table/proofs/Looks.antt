@@ -31,6 +31,7 @@ hit (n ∷ ns) k zero rising (within, is) = eq-eqb k n (sym is)
 hit (n ∷ ns) k (suc i) rising (within, is) =
     (ne-eqb k n (λ e. omega (arith, rising 0 (suc i) (omega arith) within)), hit ns k i (λ a b less end. rising (suc a) (suc b) (omega arith) (omega arith)) (omega arith, is))
 
+-- a number that stands nowhere
 nowhere : (ns : List ℕ) (k : ℕ) → ((j : ℕ) → j < length ns → getD ns j 0 ≡ k → ⊥) → Missing eqb k ns
 nowhere [] k never = tt
 nowhere (n ∷ ns) k never = (ne-eqb k n (λ e. never 0 (omega arith) (sym e)), nowhere ns k (λ j h. never (suc j) (omega arith)))
@@ -43,6 +44,7 @@ pub look-none : {A : Type 0} → look {A = A} [] [] ≡ (λ _. None)
 unfolding look
 look-none = refl
 
+-- what is found of a number, and what is found of any once something was put at the place of this one
 module _ {A : Type 0} (ns : List ℕ) (ys : List A) (k i : ℕ) where
   pub found : (d : A) → Rising ns → length ys ≡ length ns → Finds ns k (Ok i) → look ns ys k ≡ Some (getD ys i d)
   unfolding look
@@ -60,10 +62,12 @@ module _ {A : Type 0} (ns : List ℕ) (ys : List A) (k i : ℕ) where
   unfolding look
   look-inserted w pairs place = fun-ext (λ q. lookup-inserted eqb turned alike k q w i ns ys (missing ns k i place) (place .0) (omega (arith, place .0)))
 
+-- something is had under a number that has a place
 pub held : {A : Type 0} (ns : List ℕ) (ys : List A) (k i : ℕ) → Rising ns → length ys ≡ length ns → Finds ns k (Ok i) → isSome (look ns ys k) ≡ true
 held ns [] k i rising pairs place = absurd (omega (arith, place .0))
 held ns (y ∷ ys) k i rising pairs place = ap isSome (found ns (y ∷ ys) k i y rising pairs place)
 
+-- the order lasts where a number is put at the place that it would have
 pub rising-inserted : (ns : List ℕ) (k i : ℕ) → Rising ns → Finds ns k (Err i) → Rising (inserted ns i k)
 rising-inserted ns k i rising (within, below, above) a b less end =
     let long : length (inserted ns i k) ≡ length ns + 1 = length-inserted ns i k within in

@@ -15,6 +15,7 @@ use Rattle.notes_table.specs.Views.{map-of, many, had, Replaced, Puts}
 use Rattle.notes_table.specs.declared.kept.table.Table.{Table}
 use Rattle.notes_table.proofs.Looks.{found, held, absent, look-set}
 
+-- t finds i for the number k
 module _ {T : Type 0} (t : Table T) (k i : ℕ) where
   module _ (place : Finds (vec-items (t .numbers)) k (Err i)) where
     pub got-none : None ≡ map-of t k

@@ -32,7 +32,7 @@ had t k = isSome (map-of t k)
 abbrev pub Same : {T : Type 0} → Table T → Table T → Type 0
 Same t u = (map-of u ≡ map-of t) × (many u ≡ many t)
 
--- u has w under the number k, and else what t has
+-- u has w under the number k in place of what t has there, and else what t has
 abbrev pub Replaced : {T : Type 0} → ℕ → T → Table T → Table T → Type 0
 Replaced k w t u = (map-of u ≡ put k (Some w) (map-of t)) × (many u ≡ many t)
 
@@ -41,7 +41,8 @@ abbrev pub Sets : {T : Type 0} → ℕ → T → Table T → Table T → Bool �
 Sets k w t u true = Replaced k w t u × (had t k ≡ true)
 Sets k w t u false = Same t u × (had t k ≡ false)
 
--- what comes of putting w under the number k into t: the answer, and the table u afterwards
+-- what comes of putting w under the number k into t: the answer, and the table u afterwards.
+-- There is one number more exactly if k was not had, and for that there must be a place. What is refused changes nothing.
 abbrev pub Puts : {T : Type 0} → ℕ → T → Table T → Table T → Result (Unit {0}) Unplaced → Type 0
 Puts k w t u (Ok _) = (map-of u ≡ put k (Some w) (map-of t)) × (many u ≡ cond (had t k) (many t) (many t + 1)) × (had t k ≡ false → many t < 4096)
 Puts k w t u (Err Full) = Same t u × (had t k ≡ false) × (many t ≡ 4096)

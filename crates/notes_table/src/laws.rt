@@ -1,7 +1,7 @@
 // What follows for whoever has tables.
 ghost use Rattle.notes_table.specs.Laws.{Laws};
 
-/// What is had under one number does not depend on the others; a full table takes no other number; and so on.
+/// What is put under one number leaves what is had under the others; what is had can always be replaced; a full table takes no other number; and a table counts the numbers that have something.
 pub fn table_laws<T>() -> u8
     ensures { λ _. ⌜ Laws T ⌝ }
 {

@@ -1,4 +1,4 @@
-// Things by the number of a note: what a warden has of each note, and the office.
+// Tables of things by the numbers of notes.
 pub mod kept;
 pub mod laws;
 pub mod table;

@@ -1,21 +1,20 @@
 // What is done with a table.
 ghost use mathlib.Core.Bool.{true, false};
 ghost use mathlib.Core.Path.{_≡_};
-ghost use Prim.Native.Nat.{ℕ, _+_, _<_, _≤_};
-ghost use lib.ListN.{length, getD, set};
+ghost use Prim.Native.Nat.{_+_, _<_};
+ghost use lib.ListN.{getD, set};
 ghost use ghost.Atoms.{sem};
 ghost use denote.Follow.{follows-so};
 ghost use denote.Ref.{name};
 ghost use Rattle.std.specs.Changed.{nameOf};
-ghost use Rattle.std.specs.Holes.{inserted};
 ghost use Rattle.std.specs.Of.Vec.{vec-items};
 ghost use Rattle.std.specs.Options.{isSome, mapped};
 ghost use Rattle.std.specs.Results.{isOk};
 ghost use Rattle.std.specs.declared.option.Option.the-variants.{Some, None};
-ghost use Rattle.std.specs.declared.result.Result.the-variants.{Ok, Err};
+ghost use Rattle.std.specs.declared.result.Result.the-variants.{Err};
 ghost use Rattle.register.specs.Count.{put};
 ghost use Rattle.notes_table.specs.Places.{Finds};
-ghost use Rattle.notes_table.specs.Views.{map-of, many, had, Same, Replaced, Sets, Puts, Roomy};
+ghost use Rattle.notes_table.specs.Views.{map-of, many, had, Replaced, Sets, Puts, Roomy};
 ghost use Rattle.notes_table.specs.contracts.kept.table.Table.{the-row};
 pub use crate::kept::table::Table;
 use crate::unplaced::Unplaced;
@@ -55,7 +54,7 @@ impl<T: Copy> Table<T> {
         Some(*self.at(place))
     }
 
-    /// What is had under a number, to be written.
+    /// What is had under a number, to be written: the table then has what was written, and else what it had.
     pub fn get_mut(&mut self, number: NoteId) -> Option<&mut T>
         ensures { λ r. sem 𝓤 H A (follows-so (the-row T·row) T·row (name (self .entry)) (nameOf r) (λ w t. isSome r ≡ true → Replaced (number .0) w (now (self .entry)) t) (λ t. t ≡ now (self .entry))) ∗ ⌜ mapped now r ≡ map-of (now (self .entry)) (number .0) ⌝ }
     {
@@ -78,6 +77,19 @@ impl<T: Copy> Table<T> {
         }
     }
 
+    /// Puts an item under a number, in place of what was had under it. Where there is no place for one more, nothing changes.
+    pub fn put(&mut self, number: NoteId, item: T) -> Result<(), Unplaced>
+        ensures { λ r. ⌜ Puts (number .0) item (now (self .entry)) (now (self .exit)) r ⌝ }
+    {
+        match self.find(number) {
+            Ok(place) => {
+                self.replace(place, item);
+                Ok(())
+            }
+            Err(place) => self.add(place, number, item),
+        }
+    }
+
     // The place of a number, or else the one that it would have.
     fn find(&self, number: NoteId) -> Result<usize, usize>
         ensures { λ r. ⌜ Finds (vec-items (now (self .entry) .numbers)) (number .0) r ⌝ }
@@ -93,6 +105,7 @@ impl<T: Copy> Table<T> {
         Err(self.numbers.len())
     }
 
+    // What stands at a place.
     fn at(&self, place: usize) -> &T
         requires { ⌜ place < many (now self) ⌝ }
         ensures { λ r. ⌜ now r ≡ getD (vec-items (now (self .entry) .items)) place (now r) ⌝ }
@@ -100,19 +113,7 @@ impl<T: Copy> Table<T> {
         &self.items[place]
     }
 
-    /// Has the item under the number from now on, whatever was had under it.
-    pub fn put(&mut self, number: NoteId, item: T) -> Result<(), Unplaced>
-        ensures { λ r. ⌜ Puts (number .0) item (now (self .entry)) (now (self .exit)) r ⌝ }
-    {
-        match self.find(number) {
-            Ok(place) => {
-                self.replace(place, item);
-                Ok(())
-            }
-            Err(place) => self.add(place, number, item),
-        }
-    }
-
+    // Puts an item at a place, in place of what stood there.
     fn replace(&mut self, place: usize, item: T)
         requires { ⌜ place < many (now self) ⌝ }
         ensures numbers { λ _. ⌜ vec-items (now (self .exit) .numbers) ≡ vec-items (now (self .entry) .numbers) ⌝ }
@@ -121,7 +122,7 @@ impl<T: Copy> Table<T> {
         self.items[place] = item;
     }
 
-    // Puts the item under a number that is not had, if there may be one more.
+    // Puts an item under a number that is not had and would stand at the place, if there may be one more.
     fn add(&mut self, place: usize, number: NoteId, item: T) -> Result<(), Unplaced>
         requires place { ⌜ Finds (vec-items (now self .numbers)) (number .0) (Err place) ⌝ }
         requires fresh { ⌜ had (now self) (number .0) ≡ false ⌝ }
@@ -157,7 +158,7 @@ impl<T: Copy> Table<T> {
         self.items.reserve(1)
     }
 
-    // Both insertions find the room that was made, so that there are never more numbers than items.
+    // Neither insertion can fail, since there is room: never one without the other.
     fn insert_reserved(&mut self, place: usize, number: NoteId, item: T)
         requires place { ⌜ Finds (vec-items (now self .numbers)) (number .0) (Err place) ⌝ }
         requires few { ⌜ many (now self) < 4096 ⌝ }
