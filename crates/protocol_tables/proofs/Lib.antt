@@ -3,3 +3,4 @@ pub mod Refines
 pub mod Numbers
 pub mod Room
 pub mod Lifts
+pub mod Runs

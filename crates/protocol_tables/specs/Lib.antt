@@ -3,3 +3,5 @@ pub mod Warden
 pub mod Office
 pub mod System
 pub mod Progress
+pub mod Runs
+pub mod Readers
