@@ -1,1 +1,1 @@
-mod Along
+pub mod Along

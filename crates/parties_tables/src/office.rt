@@ -10,6 +10,7 @@ ghost use Rattle.notes.specs.Views.{bytes-of};
 ghost use Rattle.parties.specs.Desks.{desk-of};
 ghost use Rattle.parties.specs.Views.{message-of, sends-of, office-outcome};
 ghost use Rattle.protocol_tables.specs.Office.{empty-office, office-writes, office-hears, again, office-ticks, without};
+ghost use Rattle.protocol_tables.specs.Runs.{OfficeHears, OfficeWrites, OfficeTicks};
 ghost use Rattle.parties_tables.specs.Keeps.{Stored};
 ghost use Rattle.parties_tables.specs.Offices.{number-of, office-of, letter-about, letter-of, Begun, Did};
 use crate::no_memory::NoMemory;
@@ -68,6 +69,14 @@ impl Office {
     pub fn write(&mut self, number: NoteId, value: Value) -> Result<OfficeStep, NoMemory>
         ensures quorum { λ _. ⌜ now (self .exit) .quorum ≡ now (self .entry) .quorum ⌝ }
         ensures did { λ r. ⌜ Cases r (λ step. Did (office-of (now (self .exit))) (letter-about (number .0) (sends-of (step .sends))) (office-outcome (step .outcome)) (office-writes (office-of (now (self .entry))) (number .0) (bytes-of value))) (λ _. office-of (now (self .exit)) ≡ office-of (now (self .entry))) ⌝ }
+        ensures runs { λ r. ⌜ in-memory r (λ step. OfficeWrites (now (self .entry) .quorum .wardens) (now (self .entry) .quorum .faults) (office-of (now (self .entry))) (number .0) (record { next = (office-of (now (self .exit))); letters = letter-about (number .0) (sends-of (step .sends)); outcome = office-outcome (step .outcome) })) ⌝ }
+    {
+        self.begin_writing(number, value)
+    }
+
+    fn begin_writing(&mut self, number: NoteId, value: Value) -> Result<OfficeStep, NoMemory>
+        ensures quorum { λ _. ⌜ now (self .exit) .quorum ≡ now (self .entry) .quorum ⌝ }
+        ensures did { λ r. ⌜ Cases r (λ step. Did (office-of (now (self .exit))) (letter-about (number .0) (sends-of (step .sends))) (office-outcome (step .outcome)) (office-writes (office-of (now (self .entry))) (number .0) (bytes-of value))) (λ _. office-of (now (self .exit)) ≡ office-of (now (self .entry))) ⌝ }
     {
         let mut desk = self.desk(number);
         let step = desk.write(value);
@@ -115,6 +124,14 @@ impl Office {
     pub fn on(&mut self, from: PartyId, number: NoteId, message: Message) -> OfficeStep
         ensures quorum { λ _. ⌜ now (self .exit) .quorum ≡ now (self .entry) .quorum ⌝ }
         ensures did { λ r. ⌜ Did (office-of (now (self .exit))) (letter-about (number .0) (sends-of (r .sends))) (office-outcome (r .outcome)) (office-hears (now (self .entry) .quorum .wardens) (now (self .entry) .quorum .faults) (office-of (now (self .entry))) (from .0) (number .0) (message-of message)) ⌝ }
+        ensures runs { λ r. ⌜ OfficeHears (now (self .entry) .quorum .wardens) (now (self .entry) .quorum .faults) (office-of (now (self .entry))) (from .0) (number .0) (message-of message) (record { next = (office-of (now (self .exit))); letters = letter-about (number .0) (sends-of (r .sends)); outcome = office-outcome (r .outcome) }) ⌝ }
+    {
+        self.receive(from, number, message)
+    }
+
+    fn receive(&mut self, from: PartyId, number: NoteId, message: Message) -> OfficeStep
+        ensures quorum { λ _. ⌜ now (self .exit) .quorum ≡ now (self .entry) .quorum ⌝ }
+        ensures did { λ r. ⌜ Did (office-of (now (self .exit))) (letter-about (number .0) (sends-of (r .sends))) (office-outcome (r .outcome)) (office-hears (now (self .entry) .quorum .wardens) (now (self .entry) .quorum .faults) (office-of (now (self .entry))) (from .0) (number .0) (message-of message)) ⌝ }
     {
         let mut desk = self.desk(number);
         let step = desk.on(&self.quorum, from, message);
@@ -133,6 +150,13 @@ impl Office {
 
     /// It is time to send again: each writing under way, in the order in which they began.
     pub fn tick(&self, heap: Global) -> Result<Vec<Letter>, NoMemory>
+        ensures did { λ r. ⌜ in-memory r (λ letters. map letter-of (vec-items letters) ≡ office-ticks (office-of (now (self .entry))) .letters) ⌝ }
+        ensures runs { λ r. ⌜ in-memory r (λ letters. OfficeTicks (now (self .entry) .quorum .wardens) (now (self .entry) .quorum .faults) (office-of (now (self .entry))) (record { next = (office-of (now (self .entry))); letters = map letter-of (vec-items letters); outcome = office-ticks (office-of (now (self .entry))) .outcome })) ⌝ }
+    {
+        self.letters(heap)
+    }
+
+    fn letters(&self, heap: Global) -> Result<Vec<Letter>, NoMemory>
         ensures { λ r. ⌜ in-memory r (λ letters. map letter-of (vec-items letters) ≡ office-ticks (office-of (now (self .entry))) .letters) ⌝ }
     {
         let mut letters = Vec::new(heap);

@@ -8,6 +8,8 @@ ghost use Rattle.notes.specs.Views.{note-of};
 ghost use Rattle.parties.specs.Views.{message-of, sends-of, warden-outcome, made, Did};
 ghost use Rattle.protocol_tables.specs.Keep.{empty};
 ghost use Rattle.protocol_tables.specs.Warden.{warden-keeps};
+ghost use Rattle.protocol_tables.specs.Runs.{WardenHears};
+ghost use Rattle.std.specs.Vec.{made as made-if};
 ghost use Rattle.parties_tables.specs.Keeps.{Stored};
 ghost use Rattle.parties_tables.specs.Wardens.{notes-of};
 use crate::no_memory::NoMemory;
@@ -52,7 +54,14 @@ impl Warden {
 
     /// What it does with a message about a note.
     pub fn on(&mut self, from: PartyId, number: NoteId, message: Message) -> Result<WardenStep, NoMemory>
-        ensures { λ r. ⌜ Cases r (λ step. Did (notes-of (now (self .exit))) (sends-of (step .sends)) (warden-outcome (step .outcome)) (warden-keeps (notes-of (now (self .entry))) (from .0) (number .0) (message-of message))) (λ _. notes-of (now (self .exit)) ≡ notes-of (now (self .entry))) ⌝ }
+        ensures did {λ r. ⌜ Cases r (λ step. Did (notes-of (now (self .exit))) (sends-of (step .sends)) (warden-outcome (step .outcome)) (warden-keeps (notes-of (now (self .entry))) (from .0) (number .0) (message-of message))) (λ _. notes-of (now (self .exit)) ≡ notes-of (now (self .entry))) ⌝ }
+        ensures runs { λ r. ⌜ made-if r (λ step. (n f : ℕ) → 4 * f < n → WardenHears n f (notes-of (now (self .entry))) (from .0) (number .0) (message-of message) (made (notes-of (now (self .exit))) (sends-of (step .sends)) (warden-outcome (step .outcome)))) ⌝ }
+    {
+        self.receive(from, number, message)
+    }
+
+    fn receive(&mut self, from: PartyId, number: NoteId, message: Message) -> Result<WardenStep, NoMemory>
+        ensures {λ r. ⌜ Cases r (λ step. Did (notes-of (now (self .exit))) (sends-of (step .sends)) (warden-outcome (step .outcome)) (warden-keeps (notes-of (now (self .entry))) (from .0) (number .0) (message-of message))) (λ _. notes-of (now (self .exit)) ≡ notes-of (now (self .entry))) ⌝ }
     {
         let mut slot = Slot {
             held: self.note(number),
