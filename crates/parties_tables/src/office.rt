@@ -78,12 +78,12 @@ impl Office {
         ensures quorum { λ _. ⌜ now (self .exit) .quorum ≡ now (self .entry) .quorum ⌝ }
         ensures did { λ r. ⌜ Cases r (λ step. Did (office-of (now (self .exit))) (letter-about (number .0) (sends-of (step .sends))) (office-outcome (step .outcome)) (office-writes (office-of (now (self .entry))) (number .0) (bytes-of value))) (λ _. office-of (now (self .exit)) ≡ office-of (now (self .entry))) ⌝ }
     {
-        let mut desk = self.desk(number);
-        let step = desk.write(value);
+        let mut next = self.desk(number);
+        let step = next.write(value);
         let OfficeOutcome::Begun = step.outcome else {
             return Ok(step);
         };
-        if self.begin(number, desk)? {
+        if self.begin(number, next)? {
             return Ok(step);
         }
         Ok(OfficeStep {

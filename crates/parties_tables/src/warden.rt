@@ -53,15 +53,25 @@ impl Warden {
     }
 
     /// What it does with a message about a note.
-    pub fn on(&mut self, from: PartyId, number: NoteId, message: Message) -> Result<WardenStep, NoMemory>
-        ensures did {λ r. ⌜ Cases r (λ step. Did (notes-of (now (self .exit))) (sends-of (step .sends)) (warden-outcome (step .outcome)) (warden-keeps (notes-of (now (self .entry))) (from .0) (number .0) (message-of message))) (λ _. notes-of (now (self .exit)) ≡ notes-of (now (self .entry))) ⌝ }
+    pub fn on(
+        &mut self,
+        from: PartyId,
+        number: NoteId,
+        message: Message,
+    ) -> Result<WardenStep, NoMemory>
+        ensures did { λ r. ⌜ Cases r (λ step. Did (notes-of (now (self .exit))) (sends-of (step .sends)) (warden-outcome (step .outcome)) (warden-keeps (notes-of (now (self .entry))) (from .0) (number .0) (message-of message))) (λ _. notes-of (now (self .exit)) ≡ notes-of (now (self .entry))) ⌝ }
         ensures runs { λ r. ⌜ made-if r (λ step. (n f : ℕ) → 4 * f < n → WardenHears n f (notes-of (now (self .entry))) (from .0) (number .0) (message-of message) (made (notes-of (now (self .exit))) (sends-of (step .sends)) (warden-outcome (step .outcome)))) ⌝ }
     {
         self.receive(from, number, message)
     }
 
-    fn receive(&mut self, from: PartyId, number: NoteId, message: Message) -> Result<WardenStep, NoMemory>
-        ensures {λ r. ⌜ Cases r (λ step. Did (notes-of (now (self .exit))) (sends-of (step .sends)) (warden-outcome (step .outcome)) (warden-keeps (notes-of (now (self .entry))) (from .0) (number .0) (message-of message))) (λ _. notes-of (now (self .exit)) ≡ notes-of (now (self .entry))) ⌝ }
+    fn receive(
+        &mut self,
+        from: PartyId,
+        number: NoteId,
+        message: Message,
+    ) -> Result<WardenStep, NoMemory>
+        ensures { λ r. ⌜ Cases r (λ step. Did (notes-of (now (self .exit))) (sends-of (step .sends)) (warden-outcome (step .outcome)) (warden-keeps (notes-of (now (self .entry))) (from .0) (number .0) (message-of message))) (λ _. notes-of (now (self .exit)) ≡ notes-of (now (self .entry))) ⌝ }
     {
         let mut slot = Slot {
             held: self.note(number),

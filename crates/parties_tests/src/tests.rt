@@ -8,15 +8,15 @@ use notes::ids::RoundNumber;
 use notes::note::Note;
 use notes::quorum::Quorum;
 use notes::value::Value;
+use parties::desk::Desk;
 use parties::message::Message;
 use parties::message::Sends;
-use parties::desk::Desk;
 use parties::reader::Reader;
 use parties::refusal::Refusal;
+use parties::slot::Slot;
 use parties::step::OfficeOutcome;
 use parties::step::ReaderOutcome;
 use parties::step::WardenOutcome;
-use parties::slot::Slot;
 use std::test::*;
 
 fn quorum(wardens: u8, faults: u8) -> Result<Quorum, Fail> {

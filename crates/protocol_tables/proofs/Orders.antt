@@ -81,7 +81,6 @@ module _ (o : Office) (h : Ordered o) (k : ℕ) where
   abbrev Keeps : OfficeStep → Type 0
   Keeps s = Ordered (s .next)
 
-
   pub write-ordered : (v : List ℕ) → Ordered (office-writes o k v .next)
   write-ordered v =
       cond-both (o .desks .at k .busy || leb last-edition (o .desks .at k .now .edition)) (refuse (o .desks .at k) 5) (begin-writing (o .desks .at k) v) (λ (s : Step Desk OfficeDone). Ordered (keep-writing o k s .next))
