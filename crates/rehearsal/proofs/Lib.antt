@@ -1,0 +1,5 @@
+mod Picks
+mod Sends
+mod Numbers
+mod Hex
+mod Places

@@ -1,0 +1,5 @@
+pub mod Parties
+pub mod Ways
+pub mod Words
+pub mod Casts
+pub mod Scenes

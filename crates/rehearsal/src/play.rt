@@ -1,0 +1,152 @@
+// What a command does on the stage, and what is told of it.
+use crate::command::Clock;
+use crate::command::Command;
+use crate::command::Saying;
+use crate::failure::Failure;
+use crate::failure::FailureFromMemory;
+use crate::failure::FailureFromScript;
+use crate::failure::FailureFromText;
+use crate::liar::Seed;
+use crate::party::ReaderId;
+use crate::script_error::ScriptError;
+use crate::stage::Arrival;
+use crate::stage::Stage;
+use crate::transcript::Transcript;
+use crate::way::Packet;
+use crate::way::Which;
+use notes::value::Value;
+
+/// The most messages that come by one `deliver all`.
+pub const MOST_DELIVERED: u32 = 10000;
+
+/// Does a command.
+pub fn play(stage: &mut Stage, out: &mut Transcript, command: Command) -> Result<(), Failure> {
+    match command {
+        Command::Liar(warden) => {
+            stage.cast.turn(warden)?;
+            Ok(out.turns(warden)?)
+        }
+        Command::Seed(seed) => {
+            stage.seed = Some(Seed { state: seed });
+            Ok(out.seeds(seed)?)
+        }
+        Command::Write(value) => write(stage, out, value),
+        Command::Tick(clock) => tick(stage, out, clock),
+        Command::Read(reader) => read(stage, out, reader),
+        Command::Deliver(which) => deliver(stage, out, which),
+        Command::DeliverAll => deliver_all(stage, out),
+        Command::Lose(which) => lose(stage, out, which),
+        Command::Double(which) => double(stage, out, which),
+        Command::Late(which) => delay(stage, out, which),
+        Command::Say(saying) => say(stage, out, saying),
+        Command::Show => Ok(out.show(stage)?),
+    }
+}
+
+fn write(stage: &mut Stage, out: &mut Transcript, value: Value) -> Result<(), Failure> {
+    let before = stage.way.packets.len();
+    let outcome = stage.write(value)?;
+    out.office(&stage.cast.desk, outcome)?;
+    Ok(out.sent(&stage.way, before)?)
+}
+
+fn tick(stage: &mut Stage, out: &mut Transcript, clock: Clock) -> Result<(), Failure> {
+    match clock {
+        Clock::Office => tick_office(stage, out),
+        Clock::Reader(reader) => tick_reader(stage, out, reader),
+        Clock::All => tick_all(stage, out),
+    }
+}
+
+fn tick_office(stage: &mut Stage, out: &mut Transcript) -> Result<(), Failure> {
+    let before = stage.way.packets.len();
+    let outcome = stage.tick_office()?;
+    out.office(&stage.cast.desk, outcome)?;
+    Ok(out.sent(&stage.way, before)?)
+}
+
+fn tick_reader(stage: &mut Stage, out: &mut Transcript, reader: ReaderId) -> Result<(), Failure> {
+    let before = stage.way.packets.len();
+    let outcome = stage.tick_reader(reader)?;
+    out.reader(&stage.cast, reader, outcome)?;
+    Ok(out.sent(&stage.way, before)?)
+}
+
+// A reader that never began to read is passed over.
+fn tick_all(stage: &mut Stage, out: &mut Transcript) -> Result<(), Failure> {
+    tick_office(stage, out)?;
+    for index in 0..4 {
+        let reader = ReaderId { index };
+        if stage.cast.has_read(reader) {
+            tick_reader(stage, out, reader)?;
+        }
+    }
+    Ok(())
+}
+
+fn read(stage: &mut Stage, out: &mut Transcript, reader: ReaderId) -> Result<(), Failure> {
+    let before = stage.way.packets.len();
+    let outcome = stage.read(reader)?;
+    out.reader(&stage.cast, reader, outcome)?;
+    Ok(out.sent(&stage.way, before)?)
+}
+
+fn deliver(stage: &mut Stage, out: &mut Transcript, which: Which) -> Result<(), Failure> {
+    let Some(packet) = stage.way.take(which) else {
+        return Err(Failure::Script(ScriptError::NotOnItsWay));
+    };
+    bring(stage, out, packet)
+}
+
+fn deliver_all(stage: &mut Stage, out: &mut Transcript) -> Result<(), Failure> {
+    if stage.way.packets.is_empty() {
+        return Ok(out.nothing_comes()?);
+    }
+    for _ in 0..MOST_DELIVERED {
+        let Some(packet) = stage.way.take_first() else {
+            return Ok(());
+        };
+        bring(stage, out, packet)?;
+    }
+    Ok(out.stops(MOST_DELIVERED)?)
+}
+
+// A message that was taken from the way comes to whom it is for.
+fn bring(stage: &mut Stage, out: &mut Transcript, packet: Packet) -> Result<(), Failure> {
+    let before = stage.way.packets.len();
+    let arrival = stage.arrive(packet)?;
+    if let Arrival::Liar = arrival {
+        stage.lie(packet)?;
+    }
+    out.comes(&stage.cast.desk, packet, arrival)?;
+    Ok(out.sent(&stage.way, before)?)
+}
+
+fn lose(stage: &mut Stage, out: &mut Transcript, which: Which) -> Result<(), Failure> {
+    match stage.way.take(which) {
+        Some(packet) => Ok(out.lost(packet)?),
+        None => Err(Failure::Script(ScriptError::NotOnItsWay)),
+    }
+}
+
+fn double(stage: &mut Stage, out: &mut Transcript, which: Which) -> Result<(), Failure> {
+    let before = stage.way.packets.len();
+    let Some(packet) = stage.way.double(which)? else {
+        return Err(Failure::Script(ScriptError::NotOnItsWay));
+    };
+    out.doubled(packet)?;
+    Ok(out.sent(&stage.way, before)?)
+}
+
+fn delay(stage: &mut Stage, out: &mut Transcript, which: Which) -> Result<(), Failure> {
+    match stage.way.delay(which)? {
+        Some(packet) => Ok(out.late(packet)?),
+        None => Err(Failure::Script(ScriptError::NotOnItsWay)),
+    }
+}
+
+fn say(stage: &mut Stage, out: &mut Transcript, saying: Saying) -> Result<(), Failure> {
+    let before = stage.way.packets.len();
+    stage.say(saying)?;
+    Ok(out.sent(&stage.way, before)?)
+}

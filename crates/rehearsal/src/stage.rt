@@ -1,0 +1,200 @@
+// The parties and what is on its way between them. Whatever a party does is a step of `parties`.
+ghost use mathlib.Core.Path.{_≡_};
+ghost use mathlib.Core.Bool.{true, false};
+ghost use mathlib.Core.List.{[], _∷_, _++_};
+ghost use Prim.Native.Nat.{ℕ, _+_};
+ghost use Rattle.std.specs.Vec.{made};
+ghost use Rattle.notes.specs.Views.{bytes-of, members};
+ghost use Rattle.protocol.specs.Office.{write-on, office-tick, office-on};
+ghost use Rattle.protocol.specs.Reader.{read-on, reader-tick, reader-on};
+ghost use Rattle.protocol.specs.Warden.{warden-on};
+ghost use Rattle.parties.specs.Views.{message-of, office-outcome, warden-outcome, reader-outcome};
+ghost use Rattle.rehearsal.specs.Casts.{numbers-of};
+ghost use Rattle.rehearsal.specs.Scenes.{scene-of, by-office, by-warden, by-reader, Made, Stays};
+use crate::cast::Cast;
+use crate::command::Saying;
+use crate::failure::Failure;
+use crate::failure::FailureFromMemory;
+use crate::kept::reader_id::ReaderId;
+use crate::liar::Seed;
+use crate::party::Party;
+use crate::script_error::ScriptError;
+use crate::way::Packet;
+use crate::way::Way;
+use notes::ids::NoteId;
+use notes::ids::OFFICE;
+use notes::ids::PartyId;
+use notes::quorum::Quorum;
+use notes::value::Value;
+use notes::warden_id::WardenId;
+use parties::message::Message;
+use parties::step::OfficeOutcome;
+use parties::step::ReaderOutcome;
+use parties::step::WardenOutcome;
+use std::alloc::AllocError;
+use std::alloc::Global;
+
+/// The one note that a rehearsal is about.
+pub const NOTE: NoteId = NoteId(0);
+
+/// The parties, the seed by which liars answer, and what is on its way.
+#[derive(Drop)]
+pub struct Stage {
+    pub cast: Cast,
+    pub seed: Option<Seed>,
+    pub way: Way,
+}
+
+/// To whom a message came, and what it came to there.
+#[derive(Clone, Copy)]
+pub enum Arrival {
+    Office(OfficeOutcome),
+    Warden(WardenOutcome),
+    Reader(ReaderOutcome),
+    /// A liar, who does not keep to the rules.
+    Liar,
+    Nobody,
+}
+
+impl Stage {
+    /// Nothing has happened yet, and nobody lies.
+    pub fn new(heap: Global, quorum: Quorum) -> Stage {
+        Stage {
+            cast: Cast::new(quorum),
+            seed: None,
+            way: Way::new(heap),
+        }
+    }
+
+    /// The office is to write this value.
+    pub fn write(&mut self, value: Value) -> Result<OfficeOutcome, AllocError>
+        ensures stays { λ _. ⌜ Stays (now (self .entry)) (now (self .exit)) ⌝ }
+        ensures did { λ r. ⌜ made r (λ o. Made (write-on (scene-of (now (self .entry)) .desk) (bytes-of value)) (by-office (now (self .entry) .cast .quorum .wardens)) (scene-of (now (self .entry))) (scene-of (now (self .exit))) (office-outcome o)) ⌝ }
+    {
+        let step = self.cast.desk.write(value);
+        self.way.send(self.cast.quorum.wardens, PartyId(OFFICE), step.sends)?;
+        Ok(step.outcome)
+    }
+
+    /// Time passes for the office.
+    pub fn tick_office(&mut self) -> Result<OfficeOutcome, AllocError>
+        ensures stays { λ _. ⌜ Stays (now (self .entry)) (now (self .exit)) ⌝ }
+        ensures did { λ r. ⌜ made r (λ o. Made (office-tick (scene-of (now (self .entry)) .desk)) (by-office (now (self .entry) .cast .quorum .wardens)) (scene-of (now (self .entry))) (scene-of (now (self .exit))) (office-outcome o)) ⌝ }
+    {
+        let step = self.cast.desk.tick();
+        self.way.send(self.cast.quorum.wardens, PartyId(OFFICE), step.sends)?;
+        Ok(step.outcome)
+    }
+
+    /// A reader begins to read.
+    pub fn read(&mut self, reader: ReaderId) -> Result<ReaderOutcome, AllocError>
+        ensures stays { λ _. ⌜ Stays (now (self .entry)) (now (self .exit)) ⌝ }
+        ensures did { λ r. ⌜ made r (λ o. Made (read-on (scene-of (now (self .entry)) .reader (reader .index)) 0) (by-reader (now (self .entry) .cast .quorum .wardens) (reader .index)) (scene-of (now (self .entry))) (scene-of (now (self .exit))) (reader-outcome o)) ⌝ }
+    {
+        let mut party = *self.cast.reader(reader);
+        let step = party.read(NOTE);
+        self.cast.set_reader(reader, party);
+        self.way.send(self.cast.quorum.wardens, reader.id(), step.sends)?;
+        Ok(step.outcome)
+    }
+
+    /// Time passes for a reader.
+    pub fn tick_reader(&mut self, reader: ReaderId) -> Result<ReaderOutcome, AllocError>
+        ensures stays { λ _. ⌜ Stays (now (self .entry)) (now (self .exit)) ⌝ }
+        ensures did { λ r. ⌜ made r (λ o. Made (reader-tick (numbers-of (now (self .entry) .cast) (reader .index) .0) (numbers-of (now (self .entry) .cast) (reader .index) .1) (scene-of (now (self .entry)) .reader (reader .index))) (by-reader (now (self .entry) .cast .quorum .wardens) (reader .index)) (scene-of (now (self .entry))) (scene-of (now (self .exit))) (reader-outcome o)) ⌝ }
+    {
+        let mut party = *self.cast.reader(reader);
+        let step = party.tick();
+        self.cast.set_reader(reader, party);
+        self.way.send(self.cast.quorum.wardens, reader.id(), step.sends)?;
+        Ok(step.outcome)
+    }
+
+    /// A message comes to whom it is for.
+    pub fn arrive(&mut self, packet: Packet) -> Result<Arrival, AllocError> {
+        let Some(party) = Party::of(packet.to) else {
+            return Ok(Arrival::Nobody);
+        };
+        match party {
+            Party::Office => Ok(Arrival::Office(self.to_office(packet)?)),
+            Party::Warden(warden) => self.to_warden(warden, packet),
+            Party::Reader(reader) => Ok(Arrival::Reader(self.to_reader(reader, packet)?)),
+        }
+    }
+
+    // What comes to a liar changes nothing.
+    fn to_warden(&mut self, warden: WardenId, packet: Packet) -> Result<Arrival, AllocError> {
+        if !self.cast.is_there(warden) {
+            return Ok(Arrival::Nobody);
+        }
+        if self.cast.is_liar(warden) {
+            return Ok(Arrival::Liar);
+        }
+        Ok(Arrival::Warden(self.to_honest(warden, packet)?))
+    }
+
+    fn to_office(&mut self, packet: Packet) -> Result<OfficeOutcome, AllocError>
+        ensures stays { λ _. ⌜ Stays (now (self .entry)) (now (self .exit)) ⌝ }
+        ensures did { λ r. ⌜ made r (λ o. Made (office-on (now (self .entry) .cast .quorum .wardens) (now (self .entry) .cast .quorum .faults) (scene-of (now (self .entry)) .desk) (packet .from .0) (message-of (packet .message))) (by-office (now (self .entry) .cast .quorum .wardens)) (scene-of (now (self .entry))) (scene-of (now (self .exit))) (office-outcome o)) ⌝ }
+    {
+        let step = self.cast.desk.on(&self.cast.quorum, packet.from, packet.message);
+        self.way.send(self.cast.quorum.wardens, PartyId(OFFICE), step.sends)?;
+        Ok(step.outcome)
+    }
+
+    fn to_honest(&mut self, warden: WardenId, packet: Packet) -> Result<WardenOutcome, AllocError>
+        ensures stays { λ _. ⌜ Stays (now (self .entry)) (now (self .exit)) ⌝ }
+        ensures did { λ r. ⌜ made r (λ o. Made (warden-on (scene-of (now (self .entry)) .warden (warden .index)) (packet .from .0) (message-of (packet .message))) (by-warden (now (self .entry) .cast .quorum .wardens) (warden .index)) (scene-of (now (self .entry))) (scene-of (now (self .exit))) (warden-outcome o)) ⌝ }
+    {
+        let mut party = *self.cast.warden(warden);
+        let step = party.on(packet.from, packet.message);
+        self.cast.set_warden(warden, party);
+        self.way.send(self.cast.quorum.wardens, PartyId(warden.index as u32), step.sends)?;
+        Ok(step.outcome)
+    }
+
+    fn to_reader(&mut self, reader: ReaderId, packet: Packet) -> Result<ReaderOutcome, AllocError>
+        ensures stays { λ _. ⌜ Stays (now (self .entry)) (now (self .exit)) ⌝ }
+        ensures did { λ r. ⌜ made r (λ o. Made (reader-on (numbers-of (now (self .entry) .cast) (reader .index) .0) (numbers-of (now (self .entry) .cast) (reader .index) .1) (scene-of (now (self .entry)) .reader (reader .index)) (packet .from .0) 0 (message-of (packet .message))) (by-reader (now (self .entry) .cast .quorum .wardens) (reader .index)) (scene-of (now (self .entry))) (scene-of (now (self .exit))) (reader-outcome o)) ⌝ }
+    {
+        let mut party = *self.cast.reader(reader);
+        let step = party.on(packet.from, NOTE, packet.message);
+        self.cast.set_reader(reader, party);
+        self.way.send(self.cast.quorum.wardens, reader.id(), step.sends)?;
+        Ok(step.outcome)
+    }
+
+    /// A liar sends what it likes, to somebody who takes part.
+    pub fn say(&mut self, saying: Saying) -> Result<(), Failure> {
+        if !self.cast.is_liar(saying.liar) {
+            return Err(Failure::Script(ScriptError::NotALiar));
+        }
+        if let Party::Warden(to) = saying.to && !self.cast.is_there(to) {
+            return Err(Failure::Script(ScriptError::NoSuchWarden));
+        }
+        let from = PartyId(saying.liar.index as u32);
+        self.way.put(from, saying.to.id(), saying.message)?;
+        Ok(())
+    }
+
+    /// The liar to whom a message came answers by the seed, if there is one.
+    pub fn lie(&mut self, packet: Packet) -> Result<(), AllocError> {
+        let Some(message) = self.made_up(packet.message) else {
+            return Ok(());
+        };
+        let to = match message {
+            Message::Took(_) => PartyId(OFFICE),
+            Message::Take(_) | Message::Ask(_) | Message::Told(_, _) => packet.from,
+        };
+        self.way.put(packet.to, to, message)
+    }
+
+    fn made_up(&mut self, message: Message) -> Option<Message> {
+        let Some(mut seed) = self.seed else {
+            return None;
+        };
+        let answer = seed.answer(message);
+        self.seed = Some(seed);
+        answer
+    }
+}
