@@ -1,26 +1,37 @@
 -- The parties and what is on its way between them, as the rules have it, and how a step changes that.
 -- Assumes nothing.
 use mathlib.Core.Path.{_≡_}
-use mathlib.Core.List.{List, _++_}
-use Prim.Native.Nat.{ℕ, _+_}
+use mathlib.Core.Bool.{true, false}
+use mathlib.Core.List.{List, [], _∷_, _++_}
+use Prim.Native.Nat.{ℕ, _+_, _<_}
 use Rattle.register.specs.Count.{put}
 use Rattle.register.specs.Note.{Note}
-use Rattle.protocol.specs.Message.{office, Packet, packets}
+use Rattle.std.specs.declared.result.Result.{Result}
+use Rattle.std.specs.declared.result.Result.the-variants.{Ok, Err}
+use Rattle.notes.specs.Views.{members}
+use Rattle.protocol.specs.Message as rules
+use Rattle.protocol.specs.Message.{office, packets}
 use Rattle.protocol.specs.Step.{Step, Outcome}
-use Rattle.protocol.specs.Warden.{WardenDone}
-use Rattle.protocol.specs.Office.{Desk, OfficeDone}
-use Rattle.protocol.specs.Reader.{Reader, ReaderDone}
+use Rattle.protocol.specs.Warden.{WardenDone, warden-on}
+use Rattle.protocol.specs.Office.{Desk, OfficeDone, office-on}
+use Rattle.protocol.specs.Reader.{Reader as AnyReader, ReaderDone, reader-on}
 use Rattle.parties.specs.Desks.{desk-of}
+use Rattle.parties.specs.Views.{message-of, office-outcome, warden-outcome, reader-outcome}
 use Rattle.rehearsal.specs.Casts.{notes-of, readers-of, numbers-of}
 use Rattle.rehearsal.specs.Ways.{packets-of}
+use Rattle.rehearsal.specs.declared.failure.Failure.{Failure}
+use Rattle.rehearsal.specs.declared.failure.Failure.the-variants.{Script, Memory}
 use Rattle.rehearsal.specs.declared.stage.Stage.{Stage}
+use Rattle.rehearsal.specs.declared.stage.Arrival.{Arrival}
+use Rattle.rehearsal.specs.declared.stage.Arrival.the-variants.{Office, Warden, Reader, Liar, Nobody}
+use Rattle.rehearsal.specs.declared.way.Packet.{Packet}
 
 -- on-way: what is on its way, the oldest first
 pub record Scene : Type 0 where
   pub desk : Desk
   pub warden : ℕ → Note
-  pub reader : ℕ → Reader
-  pub on-way : List Packet
+  pub reader : ℕ → AnyReader
+  pub on-way : List rules.Packet
 
 abbrev pub scene-of : Stage → Scene
 scene-of s = record { desk = desk-of (s .cast .desk); warden = notes-of (s .cast); reader = readers-of (s .cast); on-way = packets-of (s .way) }
@@ -32,7 +43,7 @@ by-office n o s = record { desk = o .next; warden = s .warden; reader = s .reade
 abbrev pub by-warden : (n i : ℕ) → Step Note WardenDone → Scene → Scene
 by-warden n i o s = record { desk = s .desk; warden = put i (o .next) (s .warden); reader = s .reader; on-way = s .on-way ++ packets n i 0 (o .sends) }
 
-abbrev pub by-reader : (n j : ℕ) → Step Reader ReaderDone → Scene → Scene
+abbrev pub by-reader : (n j : ℕ) → Step AnyReader ReaderDone → Scene → Scene
 by-reader n j o s = record { desk = s .desk; warden = s .warden; reader = put j (o .next) (s .reader); on-way = s .on-way ++ packets n (65 + j) 0 (o .sends) }
 
 -- the step was made, and came to this
@@ -46,3 +57,26 @@ pub record Stays (s t : Stage) : Type 0 where
   pub quorum-is : t .cast .quorum ≡ s .cast .quorum
   pub liars-is : t .cast .liars ≡ s .cast .liars
   pub seed-is : t .seed ≡ s .seed
+
+-- A MESSAGE HAS COME, and this is what it came to
+abbrev pub Arrived : (s t : Stage) → Packet → Arrival → Type 0
+Arrived s t p (Office o) =
+    (p .to .0 ≡ office) × Made (office-on (s .cast .quorum .wardens) (s .cast .quorum .faults) (scene-of s .desk) (p .from .0) (message-of (p .message))) (by-office (s .cast .quorum .wardens)) (scene-of s) (scene-of t) (office-outcome o)
+Arrived s t p (Warden o) =
+    (p .to .0 < s .cast .quorum .wardens) × (members (s .cast .liars) (p .to .0) ≡ false)
+    × Made (warden-on (scene-of s .warden (p .to .0)) (p .from .0) (message-of (p .message))) (by-warden (s .cast .quorum .wardens) (p .to .0)) (scene-of s) (scene-of t) (warden-outcome o)
+Arrived s t p (Reader o) =
+    (j : ℕ) × (p .to .0 ≡ 65 + j)
+    × Made (reader-on (numbers-of (s .cast) j .0) (numbers-of (s .cast) j .1) (scene-of s .reader j) (p .from .0) 0 (message-of (p .message))) (by-reader (s .cast .quorum .wardens) j) (scene-of s) (scene-of t) (reader-outcome o)
+Arrived s t p Liar = (p .to .0 < s .cast .quorum .wardens) × (members (s .cast .liars) (p .to .0) ≡ true) × (t ≡ s)
+Arrived s t p Nobody = t ≡ s
+
+-- one message is sent
+abbrev pub sending : (from to : ℕ) → rules.Message → Scene → Scene
+sending from to m s = record { desk = s .desk; warden = s .warden; reader = s .reader; on-way = s .on-way ++ (record { from = from; to = to; note = 0; message = m } ∷ []) }
+
+-- what a command that was turned away left as it was
+abbrev pub If-turned-away : Result Unit Failure → Type 0 → Type 0
+If-turned-away (Ok x) P = Unit {0}
+If-turned-away (Err (Script e)) P = P
+If-turned-away (Err (Memory e)) P = Unit {0}

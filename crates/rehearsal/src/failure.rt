@@ -1,7 +1,8 @@
 // Why a command was not done.
+ghost use mathlib.Core.Path.{_≡_};
+ghost use Rattle.rehearsal.specs.declared.failure.Failure.the-variants.{Script, Memory};
 use crate::script_error::ScriptError;
 use std::alloc::AllocError;
-use std::alloc::Refused;
 use std::fmt;
 
 #[derive(Clone, Copy)]
@@ -13,12 +14,16 @@ pub enum Failure {
 }
 
 pub impl From<ScriptError> for Failure as FailureFromScript {
+    ghost converts = { λ x y. y ≡ Script x };
+
     fn from(error: ScriptError) -> Failure {
         Failure::Script(error)
     }
 }
 
 pub impl From<AllocError> for Failure as FailureFromMemory {
+    ghost converts = { λ x y. y ≡ Memory x };
+
     fn from(error: AllocError) -> Failure {
         Failure::Memory(error)
     }
@@ -26,6 +31,8 @@ pub impl From<AllocError> for Failure as FailureFromMemory {
 
 // Text fails only for want of memory.
 pub impl From<fmt::Error> for Failure as FailureFromText {
+    ghost converts = { λ _ y. y ≡ Memory (record {}) };
+
     fn from(_: fmt::Error) -> Failure {
         Failure::Memory(AllocError)
     }

@@ -1,4 +1,6 @@
-// What a command does on the stage, and what is told of it.
+// What a command does on the stage, and what is told of it. A command that is turned away leaves the stage as it is.
+ghost use mathlib.Core.Path.{_≡_};
+ghost use Rattle.rehearsal.specs.Scenes.{If-turned-away};
 use crate::command::Clock;
 use crate::command::Command;
 use crate::command::Saying;
@@ -20,7 +22,9 @@ use notes::value::Value;
 pub const MOST_DELIVERED: u32 = 10000;
 
 /// Does a command.
-pub fn play(stage: &mut Stage, out: &mut Transcript, command: Command) -> Result<(), Failure> {
+pub fn play(stage: &mut Stage, out: &mut Transcript, command: Command) -> Result<(), Failure>
+    ensures { λ r. ⌜ If-turned-away r (now (stage .exit) ≡ now (stage .entry)) ⌝ }
+{
     match command {
         Command::Liar(warden) => {
             stage.cast.turn(warden)?;
@@ -43,14 +47,18 @@ pub fn play(stage: &mut Stage, out: &mut Transcript, command: Command) -> Result
     }
 }
 
-fn write(stage: &mut Stage, out: &mut Transcript, value: Value) -> Result<(), Failure> {
+fn write(stage: &mut Stage, out: &mut Transcript, value: Value) -> Result<(), Failure>
+    ensures { λ r. ⌜ If-turned-away r ⊥ ⌝ }
+{
     let before = stage.way.packets.len();
     let outcome = stage.write(value)?;
     out.office(&stage.cast.desk, outcome)?;
     Ok(out.sent(&stage.way, before)?)
 }
 
-fn tick(stage: &mut Stage, out: &mut Transcript, clock: Clock) -> Result<(), Failure> {
+fn tick(stage: &mut Stage, out: &mut Transcript, clock: Clock) -> Result<(), Failure>
+    ensures { λ r. ⌜ If-turned-away r ⊥ ⌝ }
+{
     match clock {
         Clock::Office => tick_office(stage, out),
         Clock::Reader(reader) => tick_reader(stage, out, reader),
@@ -58,14 +66,18 @@ fn tick(stage: &mut Stage, out: &mut Transcript, clock: Clock) -> Result<(), Fai
     }
 }
 
-fn tick_office(stage: &mut Stage, out: &mut Transcript) -> Result<(), Failure> {
+fn tick_office(stage: &mut Stage, out: &mut Transcript) -> Result<(), Failure>
+    ensures { λ r. ⌜ If-turned-away r ⊥ ⌝ }
+{
     let before = stage.way.packets.len();
     let outcome = stage.tick_office()?;
     out.office(&stage.cast.desk, outcome)?;
     Ok(out.sent(&stage.way, before)?)
 }
 
-fn tick_reader(stage: &mut Stage, out: &mut Transcript, reader: ReaderId) -> Result<(), Failure> {
+fn tick_reader(stage: &mut Stage, out: &mut Transcript, reader: ReaderId) -> Result<(), Failure>
+    ensures { λ r. ⌜ If-turned-away r ⊥ ⌝ }
+{
     let before = stage.way.packets.len();
     let outcome = stage.tick_reader(reader)?;
     out.reader(&stage.cast, reader, outcome)?;
@@ -73,7 +85,9 @@ fn tick_reader(stage: &mut Stage, out: &mut Transcript, reader: ReaderId) -> Res
 }
 
 // A reader that never began to read is passed over.
-fn tick_all(stage: &mut Stage, out: &mut Transcript) -> Result<(), Failure> {
+fn tick_all(stage: &mut Stage, out: &mut Transcript) -> Result<(), Failure>
+    ensures { λ r. ⌜ If-turned-away r ⊥ ⌝ }
+{
     tick_office(stage, out)?;
     for index in 0..4 {
         let reader = ReaderId { index };
@@ -84,21 +98,27 @@ fn tick_all(stage: &mut Stage, out: &mut Transcript) -> Result<(), Failure> {
     Ok(())
 }
 
-fn read(stage: &mut Stage, out: &mut Transcript, reader: ReaderId) -> Result<(), Failure> {
+fn read(stage: &mut Stage, out: &mut Transcript, reader: ReaderId) -> Result<(), Failure>
+    ensures { λ r. ⌜ If-turned-away r ⊥ ⌝ }
+{
     let before = stage.way.packets.len();
     let outcome = stage.read(reader)?;
     out.reader(&stage.cast, reader, outcome)?;
     Ok(out.sent(&stage.way, before)?)
 }
 
-fn deliver(stage: &mut Stage, out: &mut Transcript, which: Which) -> Result<(), Failure> {
+fn deliver(stage: &mut Stage, out: &mut Transcript, which: Which) -> Result<(), Failure>
+    ensures { λ r. ⌜ If-turned-away r (now (stage .exit) ≡ now (stage .entry)) ⌝ }
+{
     let Some(packet) = stage.way.take(which) else {
         return Err(Failure::Script(ScriptError::NotOnItsWay));
     };
     bring(stage, out, packet)
 }
 
-fn deliver_all(stage: &mut Stage, out: &mut Transcript) -> Result<(), Failure> {
+fn deliver_all(stage: &mut Stage, out: &mut Transcript) -> Result<(), Failure>
+    ensures { λ r. ⌜ If-turned-away r ⊥ ⌝ }
+{
     if stage.way.packets.is_empty() {
         return Ok(out.nothing_comes()?);
     }
@@ -112,7 +132,9 @@ fn deliver_all(stage: &mut Stage, out: &mut Transcript) -> Result<(), Failure> {
 }
 
 // A message that was taken from the way comes to whom it is for.
-fn bring(stage: &mut Stage, out: &mut Transcript, packet: Packet) -> Result<(), Failure> {
+fn bring(stage: &mut Stage, out: &mut Transcript, packet: Packet) -> Result<(), Failure>
+    ensures { λ r. ⌜ If-turned-away r ⊥ ⌝ }
+{
     let before = stage.way.packets.len();
     let arrival = stage.arrive(packet)?;
     if let Arrival::Liar = arrival {
@@ -122,14 +144,18 @@ fn bring(stage: &mut Stage, out: &mut Transcript, packet: Packet) -> Result<(), 
     Ok(out.sent(&stage.way, before)?)
 }
 
-fn lose(stage: &mut Stage, out: &mut Transcript, which: Which) -> Result<(), Failure> {
+fn lose(stage: &mut Stage, out: &mut Transcript, which: Which) -> Result<(), Failure>
+    ensures { λ r. ⌜ If-turned-away r (now (stage .exit) ≡ now (stage .entry)) ⌝ }
+{
     match stage.way.take(which) {
         Some(packet) => Ok(out.lost(packet)?),
         None => Err(Failure::Script(ScriptError::NotOnItsWay)),
     }
 }
 
-fn double(stage: &mut Stage, out: &mut Transcript, which: Which) -> Result<(), Failure> {
+fn double(stage: &mut Stage, out: &mut Transcript, which: Which) -> Result<(), Failure>
+    ensures { λ r. ⌜ If-turned-away r (now (stage .exit) ≡ now (stage .entry)) ⌝ }
+{
     let before = stage.way.packets.len();
     let Some(packet) = stage.way.double(which)? else {
         return Err(Failure::Script(ScriptError::NotOnItsWay));
@@ -138,14 +164,18 @@ fn double(stage: &mut Stage, out: &mut Transcript, which: Which) -> Result<(), F
     Ok(out.sent(&stage.way, before)?)
 }
 
-fn delay(stage: &mut Stage, out: &mut Transcript, which: Which) -> Result<(), Failure> {
+fn delay(stage: &mut Stage, out: &mut Transcript, which: Which) -> Result<(), Failure>
+    ensures { λ r. ⌜ If-turned-away r (now (stage .exit) ≡ now (stage .entry)) ⌝ }
+{
     match stage.way.delay(which)? {
         Some(packet) => Ok(out.late(packet)?),
         None => Err(Failure::Script(ScriptError::NotOnItsWay)),
     }
 }
 
-fn say(stage: &mut Stage, out: &mut Transcript, saying: Saying) -> Result<(), Failure> {
+fn say(stage: &mut Stage, out: &mut Transcript, saying: Saying) -> Result<(), Failure>
+    ensures { λ r. ⌜ If-turned-away r (now (stage .exit) ≡ now (stage .entry)) ⌝ }
+{
     let before = stage.way.packets.len();
     stage.say(saying)?;
     Ok(out.sent(&stage.way, before)?)

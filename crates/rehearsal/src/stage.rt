@@ -4,13 +4,15 @@ ghost use mathlib.Core.Bool.{true, false};
 ghost use mathlib.Core.List.{[], _∷_, _++_};
 ghost use Prim.Native.Nat.{ℕ, _+_};
 ghost use Rattle.std.specs.Vec.{made};
+ghost use Rattle.register.specs.Note.{none};
 ghost use Rattle.notes.specs.Views.{bytes-of, members};
-ghost use Rattle.protocol.specs.Office.{write-on, office-tick, office-on};
-ghost use Rattle.protocol.specs.Reader.{read-on, reader-tick, reader-on};
+ghost use Rattle.protocol.specs.Office.{empty-desk, write-on, office-tick, office-on};
+ghost use Rattle.protocol.specs.Reader.{new-reader, read-on, reader-tick, reader-on};
 ghost use Rattle.protocol.specs.Warden.{warden-on};
 ghost use Rattle.parties.specs.Views.{message-of, office-outcome, warden-outcome, reader-outcome};
+ghost use Rattle.rehearsal.specs.Parties.{party-number};
 ghost use Rattle.rehearsal.specs.Casts.{numbers-of};
-ghost use Rattle.rehearsal.specs.Scenes.{scene-of, by-office, by-warden, by-reader, Made, Stays};
+ghost use Rattle.rehearsal.specs.Scenes.{scene-of, by-office, by-warden, by-reader, Made, Stays, Arrived, sending, If-turned-away};
 use crate::cast::Cast;
 use crate::command::Saying;
 use crate::failure::Failure;
@@ -58,7 +60,9 @@ pub enum Arrival {
 
 impl Stage {
     /// Nothing has happened yet, and nobody lies.
-    pub fn new(heap: Global, quorum: Quorum) -> Stage {
+    pub fn new(heap: Global, quorum: Quorum) -> Stage
+        ensures { λ r. ⌜ scene-of r ≡ record { desk = empty-desk; warden = λ i. none; reader = λ j. new-reader 1; on-way = [] } ⌝ }
+    {
         Stage {
             cast: Cast::new(quorum),
             seed: None,
@@ -111,7 +115,10 @@ impl Stage {
     }
 
     /// A message comes to whom it is for.
-    pub fn arrive(&mut self, packet: Packet) -> Result<Arrival, AllocError> {
+    pub fn arrive(&mut self, packet: Packet) -> Result<Arrival, AllocError>
+        ensures stays { λ _. ⌜ Stays (now (self .entry)) (now (self .exit)) ⌝ }
+        ensures arrived { λ r. ⌜ made r (λ a. Arrived (now (self .entry)) (now (self .exit)) packet a) ⌝ }
+    {
         let Some(party) = Party::of(packet.to) else {
             return Ok(Arrival::Nobody);
         };
@@ -123,7 +130,10 @@ impl Stage {
     }
 
     // What comes to a liar changes nothing.
-    fn to_warden(&mut self, warden: WardenId, packet: Packet) -> Result<Arrival, AllocError> {
+    fn to_warden(&mut self, warden: WardenId, packet: Packet) -> Result<Arrival, AllocError>
+        ensures stays { λ _. ⌜ Stays (now (self .entry)) (now (self .exit)) ⌝ }
+        ensures arrived { λ r. ⌜ (packet .to .0 ≡ warden .index → made r (λ a. Arrived (now (self .entry)) (now (self .exit)) packet a)) ⌝ }
+    {
         if !self.cast.is_there(warden) {
             return Ok(Arrival::Nobody);
         }
@@ -165,7 +175,11 @@ impl Stage {
     }
 
     /// A liar sends what it likes, to somebody who takes part.
-    pub fn say(&mut self, saying: Saying) -> Result<(), Failure> {
+    pub fn say(&mut self, saying: Saying) -> Result<(), Failure>
+        ensures stays { λ _. ⌜ Stays (now (self .entry)) (now (self .exit)) ⌝ }
+        ensures said { λ r. ⌜ made r (λ _. (members (now (self .entry) .cast .liars) (saying .liar .index) ≡ true) × (scene-of (now (self .exit)) ≡ sending (saying .liar .index) (party-number (saying .to)) (message-of (saying .message)) (scene-of (now (self .entry))))) ⌝ }
+        ensures unchanged { λ r. ⌜ If-turned-away r (now (self .exit) ≡ now (self .entry)) ⌝ }
+    {
         if !self.cast.is_liar(saying.liar) {
             return Err(Failure::Script(ScriptError::NotALiar));
         }
