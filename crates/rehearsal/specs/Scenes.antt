@@ -1,6 +1,7 @@
 -- The parties and what is on its way between them, as the rules have it, and how a step changes that.
 -- Assumes nothing.
 use mathlib.Core.Path.{_≡_}
+use mathlib.Core.Logic.{_⊎_}
 use mathlib.Core.Bool.{true, false}
 use mathlib.Core.List.{List, [], _∷_, _++_}
 use Prim.Native.Nat.{ℕ, _+_, _<_}
@@ -74,6 +75,10 @@ Arrived s t p Nobody = t ≡ s
 -- one message is sent
 abbrev pub sending : (from to : ℕ) → rules.Message → Scene → Scene
 sending from to m s = record { desk = s .desk; warden = s .warden; reader = s .reader; on-way = s .on-way ++ (record { from = from; to = to; note = 0; message = m } ∷ []) }
+
+-- a liar to whom p came has said nothing, or has sent one message as from itself
+abbrev pub Lied : (s t : Scene) → Packet → Type 0
+Lied s t p = (t ≡ s) ⊎ ((to : ℕ) × (m : rules.Message) × (t ≡ sending (p .to .0) to m s))
 
 -- what a command that was turned away left as it was
 abbrev pub If-turned-away : Result Unit Failure → Type 0 → Type 0

@@ -1,4 +1,6 @@
 // What a liar makes up, from a seed.
+ghost use mathlib.Core.Path.{_≡_};
+ghost use Rattle.rehearsal.specs.Seeds.{stepped, mixed};
 use notes::ids::Edition;
 use notes::ids::RoundNumber;
 use notes::note::Note;
@@ -12,7 +14,10 @@ pub struct Seed {
 }
 
 impl Seed {
-    pub fn draw(&mut self) -> u64 {
+    pub fn draw(&mut self) -> u64
+        ensures state { λ _. ⌜ now (self .exit) .state ≡ stepped (now (self .entry) .state) ⌝ }
+        ensures value { λ r. ⌜ r ≡ mixed (stepped (now (self .entry) .state)) ⌝ }
+    {
         self.state = self.state.wrapping_add(0x9E37_79B9_7F4A_7C15);
         let mut z = self.state;
         z = (z ^ (z >> 30)).wrapping_mul(0xBF58_476D_1CE4_E5B9);

@@ -148,7 +148,7 @@ fn lose(stage: &mut Stage, out: &mut Transcript, which: Which) -> Result<(), Fai
     ensures { λ r. ⌜ If-turned-away r (now (stage .exit) ≡ now (stage .entry)) ⌝ }
 {
     match stage.way.take(which) {
-        Some(packet) => Ok(out.lost(packet)?),
+        Some(packet) => Ok(out.became(packet, "lost")?),
         None => Err(Failure::Script(ScriptError::NotOnItsWay)),
     }
 }
@@ -160,7 +160,7 @@ fn double(stage: &mut Stage, out: &mut Transcript, which: Which) -> Result<(), F
     let Some(packet) = stage.way.double(which)? else {
         return Err(Failure::Script(ScriptError::NotOnItsWay));
     };
-    out.doubled(packet)?;
+    out.became(packet, "doubled")?;
     Ok(out.sent(&stage.way, before)?)
 }
 
@@ -168,7 +168,7 @@ fn delay(stage: &mut Stage, out: &mut Transcript, which: Which) -> Result<(), Fa
     ensures { λ r. ⌜ If-turned-away r (now (stage .exit) ≡ now (stage .entry)) ⌝ }
 {
     match stage.way.delay(which)? {
-        Some(packet) => Ok(out.late(packet)?),
+        Some(packet) => Ok(out.became(packet, "late")?),
         None => Err(Failure::Script(ScriptError::NotOnItsWay)),
     }
 }

@@ -12,7 +12,7 @@ ghost use Rattle.protocol.specs.Warden.{warden-on};
 ghost use Rattle.parties.specs.Views.{message-of, office-outcome, warden-outcome, reader-outcome};
 ghost use Rattle.rehearsal.specs.Parties.{party-number};
 ghost use Rattle.rehearsal.specs.Casts.{numbers-of};
-ghost use Rattle.rehearsal.specs.Scenes.{scene-of, by-office, by-warden, by-reader, Made, Stays, Arrived, sending, If-turned-away};
+ghost use Rattle.rehearsal.specs.Scenes.{scene-of, by-office, by-warden, by-reader, Made, Stays, Arrived, sending, Lied, If-turned-away};
 use crate::cast::Cast;
 use crate::command::Saying;
 use crate::failure::Failure;
@@ -76,7 +76,8 @@ impl Stage {
         ensures did { λ r. ⌜ made r (λ o. Made (write-on (scene-of (now (self .entry)) .desk) (bytes-of value)) (by-office (now (self .entry) .cast .quorum .wardens)) (scene-of (now (self .entry))) (scene-of (now (self .exit))) (office-outcome o)) ⌝ }
     {
         let step = self.cast.desk.write(value);
-        self.way.send(self.cast.quorum.wardens, PartyId(OFFICE), step.sends)?;
+        self.way
+            .send(self.cast.quorum.wardens, PartyId(OFFICE), step.sends)?;
         Ok(step.outcome)
     }
 
@@ -86,7 +87,8 @@ impl Stage {
         ensures did { λ r. ⌜ made r (λ o. Made (office-tick (scene-of (now (self .entry)) .desk)) (by-office (now (self .entry) .cast .quorum .wardens)) (scene-of (now (self .entry))) (scene-of (now (self .exit))) (office-outcome o)) ⌝ }
     {
         let step = self.cast.desk.tick();
-        self.way.send(self.cast.quorum.wardens, PartyId(OFFICE), step.sends)?;
+        self.way
+            .send(self.cast.quorum.wardens, PartyId(OFFICE), step.sends)?;
         Ok(step.outcome)
     }
 
@@ -98,7 +100,8 @@ impl Stage {
         let mut party = *self.cast.reader(reader);
         let step = party.read(NOTE);
         self.cast.set_reader(reader, party);
-        self.way.send(self.cast.quorum.wardens, reader.id(), step.sends)?;
+        self.way
+            .send(self.cast.quorum.wardens, reader.id(), step.sends)?;
         Ok(step.outcome)
     }
 
@@ -110,7 +113,8 @@ impl Stage {
         let mut party = *self.cast.reader(reader);
         let step = party.tick();
         self.cast.set_reader(reader, party);
-        self.way.send(self.cast.quorum.wardens, reader.id(), step.sends)?;
+        self.way
+            .send(self.cast.quorum.wardens, reader.id(), step.sends)?;
         Ok(step.outcome)
     }
 
@@ -147,8 +151,11 @@ impl Stage {
         ensures stays { λ _. ⌜ Stays (now (self .entry)) (now (self .exit)) ⌝ }
         ensures did { λ r. ⌜ made r (λ o. Made (office-on (now (self .entry) .cast .quorum .wardens) (now (self .entry) .cast .quorum .faults) (scene-of (now (self .entry)) .desk) (packet .from .0) (message-of (packet .message))) (by-office (now (self .entry) .cast .quorum .wardens)) (scene-of (now (self .entry))) (scene-of (now (self .exit))) (office-outcome o)) ⌝ }
     {
-        let step = self.cast.desk.on(&self.cast.quorum, packet.from, packet.message);
-        self.way.send(self.cast.quorum.wardens, PartyId(OFFICE), step.sends)?;
+        let step = self.cast
+            .desk
+            .on(&self.cast.quorum, packet.from, packet.message);
+        self.way
+            .send(self.cast.quorum.wardens, PartyId(OFFICE), step.sends)?;
         Ok(step.outcome)
     }
 
@@ -159,7 +166,12 @@ impl Stage {
         let mut party = *self.cast.warden(warden);
         let step = party.on(packet.from, packet.message);
         self.cast.set_warden(warden, party);
-        self.way.send(self.cast.quorum.wardens, PartyId(warden.index as u32), step.sends)?;
+        self.way
+            .send(
+                self.cast.quorum.wardens,
+                PartyId(warden.index as u32),
+                step.sends,
+            )?;
         Ok(step.outcome)
     }
 
@@ -170,7 +182,8 @@ impl Stage {
         let mut party = *self.cast.reader(reader);
         let step = party.on(packet.from, NOTE, packet.message);
         self.cast.set_reader(reader, party);
-        self.way.send(self.cast.quorum.wardens, reader.id(), step.sends)?;
+        self.way
+            .send(self.cast.quorum.wardens, reader.id(), step.sends)?;
         Ok(step.outcome)
     }
 
@@ -183,7 +196,9 @@ impl Stage {
         if !self.cast.is_liar(saying.liar) {
             return Err(Failure::Script(ScriptError::NotALiar));
         }
-        if let Party::Warden(to) = saying.to && !self.cast.is_there(to) {
+        if let Party::Warden(to) = saying.to
+            && !self.cast.is_there(to)
+        {
             return Err(Failure::Script(ScriptError::NoSuchWarden));
         }
         let from = PartyId(saying.liar.index as u32);
@@ -192,7 +207,10 @@ impl Stage {
     }
 
     /// The liar to whom a message came answers by the seed, if there is one.
-    pub fn lie(&mut self, packet: Packet) -> Result<(), AllocError> {
+    pub fn lie(&mut self, packet: Packet) -> Result<(), AllocError>
+        ensures cast { λ _. ⌜ now (self .exit) .cast ≡ now (self .entry) .cast ⌝ }
+        ensures lied { λ r. ⌜ made r (λ _. Lied (scene-of (now (self .entry))) (scene-of (now (self .exit))) packet) ⌝ }
+    {
         let Some(message) = self.made_up(packet.message) else {
             return Ok(());
         };
@@ -203,7 +221,10 @@ impl Stage {
         self.way.put(packet.to, to, message)
     }
 
-    fn made_up(&mut self, message: Message) -> Option<Message> {
+    fn made_up(&mut self, message: Message) -> Option<Message>
+        ensures cast { λ _. ⌜ now (self .exit) .cast ≡ now (self .entry) .cast ⌝ }
+        ensures way { λ _. ⌜ now (self .exit) .way ≡ now (self .entry) .way ⌝ }
+    {
         let Some(mut seed) = self.seed else {
             return None;
         };

@@ -137,7 +137,10 @@ impl Transcript {
         match arrival {
             Arrival::Liar => return writeln!(self.text, ", who lies"),
             Arrival::Nobody => return writeln!(self.text, ", who is not there"),
-            Arrival::Office(_) | Arrival::Warden(_) | Arrival::Reader(_) => write!(self.text, ": ")?,
+            Arrival::Office(_) | Arrival::Warden(_) | Arrival::Reader(_) => write!(
+                self.text,
+                ": "
+            )?,
         }
         match arrival {
             Arrival::Office(outcome) => self.office_came_to(desk, outcome),
@@ -163,16 +166,9 @@ impl Transcript {
         writeln!(self.text, "  {number}: {from} -> {to}: {message}")
     }
 
-    pub fn lost(&mut self, packet: Packet) -> fmt::Result {
-        writeln!(self.text, "  {}: lost", packet.number)
-    }
-
-    pub fn doubled(&mut self, packet: Packet) -> fmt::Result {
-        writeln!(self.text, "  {}: doubled", packet.number)
-    }
-
-    pub fn late(&mut self, packet: Packet) -> fmt::Result {
-        writeln!(self.text, "  {}: late", packet.number)
+    /// What became of a message on its way.
+    pub fn became(&mut self, packet: Packet, what: &str) -> fmt::Result {
+        writeln!(self.text, "  {}: {what}", packet.number)
     }
 
     pub fn nothing_comes(&mut self) -> fmt::Result {
@@ -195,14 +191,21 @@ impl Transcript {
             self.show_reader(&stage.cast, ReaderId { index })?;
         }
         let on_way = stage.way.packets.len();
-        writeln!(self.text, "  {on_way} on their way")
+        writeln!(self.text, "  on the way: {on_way}")
     }
 
     fn show_office(&mut self, desk: &Desk) -> fmt::Result {
         let note = Text(desk.now);
-        let writing = if desk.busy { "being written" } else { "not being written" };
+        let writing = if desk.busy {
+            "being written"
+        } else {
+            "not being written"
+        };
         let acks = Text(desk.acks);
-        writeln!(self.text, "  office: note {note}, {writing}, taken by{acks}")
+        writeln!(
+            self.text,
+            "  office: note {note}, {writing}, taken by{acks}"
+        )
     }
 
     fn show_warden(&mut self, cast: &Cast, warden: WardenId) -> fmt::Result {
@@ -224,6 +227,9 @@ impl Transcript {
             return writeln!(self.text, "  {id}: not reading, round {round} was its last");
         }
         let heard = Text(reader.round.heard);
-        writeln!(self.text, "  {id}: reading in round {round}, told by{heard}")
+        writeln!(
+            self.text,
+            "  {id}: reading in round {round}, told by{heard}"
+        )
     }
 }

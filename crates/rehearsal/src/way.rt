@@ -64,12 +64,13 @@ impl Way {
         ensures { λ r. ⌜ made r (λ _. packets-of (now (self .exit)) ≡ packets-of (now (self .entry)) ++ record { from = from .0; to = to .0; note = 0; message = message-of message } ∷ []) ⌝ }
     {
         let number = self.sent.saturating_add(1);
-        self.packets.push(Packet {
-            number,
-            from,
-            to,
-            message,
-        })?;
+        self.packets
+            .push(Packet {
+                number,
+                from,
+                to,
+                message,
+            })?;
         self.sent = number;
         Ok(())
     }

@@ -16,8 +16,8 @@ use notes::ids::PartyId;
 use notes::ids::RoundNumber;
 use notes::note::Note;
 use notes::quorum::Quorum;
-use notes::value::Value;
 use notes::value::LONGEST;
+use notes::value::Value;
 use notes::warden_id::WardenId;
 use parties::message::Message;
 
@@ -97,14 +97,20 @@ impl<'a> Words<'a> {
     }
 
     pub fn warden(&mut self) -> Result<WardenId, ScriptError> {
-        match party_at(self.number()?)? {
+        let Ok(party) = party_at(self.number()?) else {
+            return Err(ScriptError::NoSuchWarden);
+        };
+        match party {
             Party::Warden(warden) => Ok(warden),
             Party::Office | Party::Reader(_) => Err(ScriptError::NoSuchWarden),
         }
     }
 
     pub fn reader(&mut self) -> Result<ReaderId, ScriptError> {
-        match party_at(self.number()?)? {
+        let Ok(party) = party_at(self.number()?) else {
+            return Err(ScriptError::NoSuchReader);
+        };
+        match party {
             Party::Reader(reader) => Ok(reader),
             Party::Office | Party::Warden(_) => Err(ScriptError::NoSuchReader),
         }

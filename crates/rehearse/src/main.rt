@@ -108,10 +108,13 @@ fn main(rt: LibcRuntime) -> io::Result<()> {
         return rehearse(&rt);
     };
     match first.as_str() {
-        "--help" => rt.print(USAGE),
-        "--version" => rt.print(VERSION),
+        "--help" if args.next().is_none() => rt.print(USAGE),
+        "--version" if args.next().is_none() => rt.print(VERSION),
         _ => {
-            eprintln!(rt, "rehearse takes no arguments but --help and --version, and reads its script from standard input.")?;
+            eprintln!(
+                rt,
+                "rehearse takes --help, --version or nothing, and then reads its script from the standard input."
+            )?;
             Err(io::Error::from(io::ErrorKind::InvalidInput))
         }
     }

@@ -8,11 +8,12 @@ pub loop-place-again : need.loop-place-again
 loop-place-again c =
     let inv = c .loop-place .inv in
     let high = c .in-Continue-high .ensures tt in
-    let low = c .in-Continue-low .ensures tt in
-    ( inv .0
-    , length-set _ _ _ ∙ inv .1
-    , bytes-more (c .args .digits .now) _ _ _ _ (high .0) (low .0) (omega arith) (inv .2)
-    , digits-more (c .args .digits .now) (c .loop-place .bytes) _ _ _ (high .0) (low .0) (high .1) (low .1) (inv .3) )
+    let low = c .in-Continue-low .ensures tt in (
+      inv .0,
+      length-set _ _ _ ∙ inv .1,
+      bytes-more (c .args .digits .now) _ _ _ _ (high .0) (low .0) (omega arith) (inv .2),
+      digits-more (c .args .digits .now) (c .loop-place .bytes) _ _ _ (high .0) (low .0) (high .1) (low .1) (inv .3),
+    )
 
 pub returns : need.returns
 returns c =

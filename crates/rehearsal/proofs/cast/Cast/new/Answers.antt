@@ -9,10 +9,11 @@ use Rattle.rehearsal.proofs.cast.Cast.new.Needs as need
 
 pub returns : need.returns
 returns c =
-    record
-      { quorum = refl
-      ; desk = c .new .ensures
-      ; notes = all-same held-by (c .new-2 .result) none 63 (c .new-2 .ensures)
-      ; readers = all-same reader-of (c .new-3 .result) (new-reader 1) 4 (c .new-3 .ensures .reader)
-      ; numbers = all-same numbers-by (c .new-3 .result) _ 4 (ap (λ (q : Quorum). (q .wardens, q .faults)) (c .new-3 .ensures .quorum))
-      ; liars = c .new-4 .ensures }
+    record {
+      quorum = refl;
+      desk = c .new .ensures;
+      notes = all-same held-by (c .new-2 .result) none 63 (c .new-2 .ensures);
+      readers = all-same reader-of (c .new-3 .result) (new-reader 1) 4 (c .new-3 .ensures .reader);
+      numbers = all-same numbers-by (c .new-3 .result) _ 4 (ap (λ (q : Quorum). (q .wardens, q .faults)) (c .new-3 .ensures .quorum));
+      liars = c .new-4 .ensures;
+    }

@@ -7,6 +7,7 @@ use Rattle.rehearsal.proofs.cast.Cast.reader.Needs as need
 
 pub returns : need.returns
 returns c =
-    record
-      { reader = sym (getD-map reader-of (c .args .self .now .readers) (c .args .id .index) _ _ (omega arith))
-      ; numbers = sym (getD-map numbers-by (c .args .self .now .readers) (c .args .id .index) _ _ (omega arith)) }
+    record {
+      reader = sym (getD-map reader-of (c .args .self .now .readers) (c .args .id .index) _ _ (omega arith));
+      numbers = sym (getD-map numbers-by (c .args .self .now .readers) (c .args .id .index) _ _ (omega arith));
+    }

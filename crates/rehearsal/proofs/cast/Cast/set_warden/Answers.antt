@@ -7,9 +7,10 @@ use Rattle.rehearsal.proofs.cast.Cast.set_warden.Needs as need
 
 pub returns : need.returns
 returns c =
-    record
-      { notes = set-put held-by (c .args .self .now .wardens) (c .args .id .index) (c .args .warden) none (omega arith)
-      ; desk = refl
-      ; readers = refl
-      ; quorum = refl
-      ; liars = refl }
+    record {
+      notes = set-put held-by (c .args .self .now .wardens) (c .args .id .index) (c .args .warden) none (omega arith);
+      desk = refl;
+      readers = refl;
+      quorum = refl;
+      liars = refl;
+    }
