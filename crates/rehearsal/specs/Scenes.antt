@@ -4,7 +4,7 @@ use mathlib.Core.Path.{_≡_}
 use mathlib.Core.Logic.{_⊎_}
 use mathlib.Core.Bool.{true, false}
 use mathlib.Core.List.{List, [], _∷_, _++_}
-use Prim.Native.Nat.{ℕ, _+_, _<_}
+use Prim.Native.Nat.{ℕ, _+_, _<_, _≤_}
 use Rattle.register.specs.Count.{put}
 use Rattle.register.specs.Note.{Note}
 use Rattle.std.specs.declared.result.Result.{Result}
@@ -15,9 +15,12 @@ use Rattle.protocol.specs.Message.{office, packets}
 use Rattle.protocol.specs.Step.{Step, Outcome}
 use Rattle.protocol.specs.Warden.{WardenDone, warden-on}
 use Rattle.protocol.specs.Office.{Desk, OfficeDone, office-on}
-use Rattle.protocol.specs.Reader.{Reader as AnyReader, ReaderDone, reader-on}
+use Rattle.protocol.specs.Reader.{Reader as AnyReader, ReaderDone, reader-tick, reader-on}
 use Rattle.parties.specs.Desks.{desk-of}
 use Rattle.parties.specs.Views.{message-of, office-outcome, warden-outcome, reader-outcome}
+use Rattle.parties.specs.declared.step.OfficeOutcome.{OfficeOutcome}
+use Rattle.parties.specs.declared.step.WardenOutcome.{WardenOutcome}
+use Rattle.parties.specs.declared.step.ReaderOutcome.{ReaderOutcome}
 use Rattle.rehearsal.specs.Casts.{notes-of, readers-of, numbers-of}
 use Rattle.rehearsal.specs.Ways.{packets-of}
 use Rattle.rehearsal.specs.declared.failure.Failure.{Failure}
@@ -59,18 +62,41 @@ pub record Stays (s t : Stage) : Type 0 where
   pub liars-is : t .cast .liars ≡ s .cast .liars
   pub seed-is : t .seed ≡ s .seed
 
+-- the office has made this step; the warden i; the reader j, counted from 0
+abbrev pub OfficeMade : (s t : Stage) → Step Desk OfficeDone → OfficeOutcome → Type 0
+OfficeMade s t step o = Made step (by-office (s .cast .quorum .wardens)) (scene-of s) (scene-of t) (office-outcome o)
+
+abbrev pub WardenMade : (s t : Stage) (i : ℕ) → Step Note WardenDone → WardenOutcome → Type 0
+WardenMade s t i step o = Made step (by-warden (s .cast .quorum .wardens) i) (scene-of s) (scene-of t) (warden-outcome o)
+
+abbrev pub ReaderMade : (s t : Stage) (j : ℕ) → Step AnyReader ReaderDone → ReaderOutcome → Type 0
+ReaderMade s t j step o = Made step (by-reader (s .cast .quorum .wardens) j) (scene-of s) (scene-of t) (reader-outcome o)
+
+-- WHAT IS DONE when time passes for a reader, and when a message comes
+abbrev pub ticked : Stage → (j : ℕ) → Step AnyReader ReaderDone
+ticked s j = reader-tick (numbers-of (s .cast) j .0) (numbers-of (s .cast) j .1) (scene-of s .reader j)
+
+abbrev pub at-office : Stage → Packet → Step Desk OfficeDone
+at-office s p = office-on (s .cast .quorum .wardens) (s .cast .quorum .faults) (scene-of s .desk) (p .from .0) (message-of (p .message))
+
+abbrev pub at-warden : Stage → (i : ℕ) → Packet → Step Note WardenDone
+at-warden s i p = warden-on (scene-of s .warden i) (p .from .0) (message-of (p .message))
+
+abbrev pub at-reader : Stage → (j : ℕ) → Packet → Step AnyReader ReaderDone
+at-reader s j p = reader-on (numbers-of (s .cast) j .0) (numbers-of (s .cast) j .1) (scene-of s .reader j) (p .from .0) 0 (message-of (p .message))
+
+-- somebody of this number takes part, where there are so many wardens
+abbrev pub Present : (wardens number : ℕ) → Type 0
+Present n i = (i < n) ⊎ ((i ≡ office) ⊎ ((65 ≤ i) × (i < 69)))
+
 -- A MESSAGE HAS COME, and this is what it came to
 abbrev pub Arrived : (s t : Stage) → Packet → Arrival → Type 0
-Arrived s t p (Office o) =
-    (p .to .0 ≡ office) × Made (office-on (s .cast .quorum .wardens) (s .cast .quorum .faults) (scene-of s .desk) (p .from .0) (message-of (p .message))) (by-office (s .cast .quorum .wardens)) (scene-of s) (scene-of t) (office-outcome o)
+Arrived s t p (Office o) = (p .to .0 ≡ office) × OfficeMade s t (at-office s p) o
 Arrived s t p (Warden o) =
-    (p .to .0 < s .cast .quorum .wardens) × (members (s .cast .liars) (p .to .0) ≡ false)
-    × Made (warden-on (scene-of s .warden (p .to .0)) (p .from .0) (message-of (p .message))) (by-warden (s .cast .quorum .wardens) (p .to .0)) (scene-of s) (scene-of t) (warden-outcome o)
-Arrived s t p (Reader o) =
-    (j : ℕ) × (p .to .0 ≡ 65 + j)
-    × Made (reader-on (numbers-of (s .cast) j .0) (numbers-of (s .cast) j .1) (scene-of s .reader j) (p .from .0) 0 (message-of (p .message))) (by-reader (s .cast .quorum .wardens) j) (scene-of s) (scene-of t) (reader-outcome o)
+    (p .to .0 < s .cast .quorum .wardens) × (members (s .cast .liars) (p .to .0) ≡ false) × WardenMade s t (p .to .0) (at-warden s (p .to .0) p) o
+Arrived s t p (Reader o) = (j : ℕ) × (p .to .0 ≡ 65 + j) × ReaderMade s t j (at-reader s j p) o
 Arrived s t p Liar = (p .to .0 < s .cast .quorum .wardens) × (members (s .cast .liars) (p .to .0) ≡ true) × (t ≡ s)
-Arrived s t p Nobody = t ≡ s
+Arrived s t p Nobody = (Present (s .cast .quorum .wardens) (p .to .0) → ⊥) × (t ≡ s)
 
 -- one message is sent
 abbrev pub sending : (from to : ℕ) → rules.Message → Scene → Scene

@@ -1,7 +1,7 @@
 // The parties of a rehearsal.
 ghost use mathlib.Core.Path.{_≡_};
 ghost use mathlib.Core.Bool.{true, false};
-ghost use Prim.Native.Nat.{ℕ};
+ghost use Prim.Native.Nat.{_<_, _≤_};
 ghost use lib.Dec.{ltb};
 ghost use Rattle.std.specs.Results.{Cases};
 ghost use Rattle.register.specs.Count.{put};
@@ -89,7 +89,9 @@ impl Cast {
     }
 
     /// Whether the reader has ever begun a round.
-    pub fn has_read(&self, reader: ReaderId) -> bool {
+    pub fn has_read(&self, reader: ReaderId) -> bool
+        ensures { λ r. ⌜ r ≡ ltb 1 (readers-of (now (self .entry)) (reader .index) .next) ⌝ }
+    {
         self.reader(reader).next.0 > FIRST_ROUND.0
     }
 
@@ -109,7 +111,7 @@ impl Cast {
 
     /// A warden lies from now on.
     pub fn turn(&mut self, warden: WardenId) -> Result<(), ScriptError>
-        ensures liars { λ r. ⌜ Cases r (λ _. members (now (self .exit) .liars) ≡ put (warden .index) true (members (now (self .entry) .liars))) (λ _. now (self .exit) ≡ now (self .entry)) ⌝ }
+        ensures liars { λ r. ⌜ Cases r (λ _. (warden .index < now (self .entry) .quorum .wardens) × (members (now (self .exit) .liars) ≡ put (warden .index) true (members (now (self .entry) .liars)))) (λ _. (now (self .entry) .quorum .wardens ≤ warden .index) × (now (self .exit) ≡ now (self .entry))) ⌝ }
         ensures desk { λ _. ⌜ now (self .exit) .desk ≡ now (self .entry) .desk ⌝ }
         ensures wardens { λ _. ⌜ now (self .exit) .wardens ≡ now (self .entry) .wardens ⌝ }
         ensures readers { λ _. ⌜ now (self .exit) .readers ≡ now (self .entry) .readers ⌝ }

@@ -1,6 +1,6 @@
 // What a liar makes up, from a seed.
 ghost use mathlib.Core.Path.{_≡_};
-ghost use Rattle.rehearsal.specs.Seeds.{stepped, mixed};
+ghost use Rattle.rehearsal.specs.Seeds.{stepped, drawn, speaks-by, round-by, edition-by};
 use notes::ids::Edition;
 use notes::ids::RoundNumber;
 use notes::note::Note;
@@ -16,7 +16,7 @@ pub struct Seed {
 impl Seed {
     pub fn draw(&mut self) -> u64
         ensures state { λ _. ⌜ now (self .exit) .state ≡ stepped (now (self .entry) .state) ⌝ }
-        ensures value { λ r. ⌜ r ≡ mixed (stepped (now (self .entry) .state)) ⌝ }
+        ensures value { λ r. ⌜ r ≡ drawn (now (self .entry) .state) ⌝ }
     {
         self.state = self.state.wrapping_add(0x9E37_79B9_7F4A_7C15);
         let mut z = self.state;
@@ -38,12 +38,18 @@ impl Seed {
     }
 
     // One time in eight it says nothing.
-    fn speaks(&mut self) -> bool {
+    fn speaks(&mut self) -> bool
+        ensures state { λ _. ⌜ now (self .exit) .state ≡ stepped (now (self .entry) .state) ⌝ }
+        ensures value { λ r. ⌜ r ≡ speaks-by (drawn (now (self .entry) .state)) ⌝ }
+    {
         self.draw() % 8 != 0
     }
 
     // The round that was asked, or one time in eight each the next or the one before.
-    fn round(&mut self, asked: RoundNumber) -> RoundNumber {
+    fn round(&mut self, asked: RoundNumber) -> RoundNumber
+        ensures state { λ _. ⌜ now (self .exit) .state ≡ stepped (now (self .entry) .state) ⌝ }
+        ensures value { λ r. ⌜ r .0 ≡ round-by (drawn (now (self .entry) .state)) (asked .0) ⌝ }
+    {
         match self.draw() % 8 {
             0 => RoundNumber(asked.0.wrapping_add(1)),
             1 => RoundNumber(asked.0.wrapping_sub(1)),
@@ -52,7 +58,10 @@ impl Seed {
     }
 
     // One of 0 to 9, or the greatest number that there is.
-    fn edition(&mut self) -> Edition {
+    fn edition(&mut self) -> Edition
+        ensures state { λ _. ⌜ now (self .exit) .state ≡ stepped (now (self .entry) .state) ⌝ }
+        ensures value { λ r. ⌜ r .0 ≡ edition-by (drawn (now (self .entry) .state)) ⌝ }
+    {
         match self.draw() % 11 {
             10 => Edition(u64::MAX),
             edition => Edition(edition),

@@ -1,18 +1,17 @@
 // The parties and what is on its way between them. Whatever a party does is a step of `parties`.
 ghost use mathlib.Core.Path.{_≡_};
-ghost use mathlib.Core.Bool.{true, false};
-ghost use mathlib.Core.List.{[], _∷_, _++_};
-ghost use Prim.Native.Nat.{ℕ, _+_};
+ghost use mathlib.Core.Bool.{true};
+ghost use mathlib.Core.List.{[], _++_};
 ghost use Rattle.std.specs.Vec.{made};
 ghost use Rattle.register.specs.Note.{none};
 ghost use Rattle.notes.specs.Views.{bytes-of, members};
-ghost use Rattle.protocol.specs.Office.{empty-desk, write-on, office-tick, office-on};
-ghost use Rattle.protocol.specs.Reader.{new-reader, read-on, reader-tick, reader-on};
-ghost use Rattle.protocol.specs.Warden.{warden-on};
-ghost use Rattle.parties.specs.Views.{message-of, office-outcome, warden-outcome, reader-outcome};
+ghost use Rattle.protocol.specs.Message.{packets};
+ghost use Rattle.protocol.specs.Office.{empty-desk, write-on, office-tick};
+ghost use Rattle.protocol.specs.Reader.{new-reader, read-on};
+ghost use Rattle.parties.specs.Views.{message-of, sends-of};
 ghost use Rattle.rehearsal.specs.Parties.{party-number};
-ghost use Rattle.rehearsal.specs.Casts.{numbers-of};
-ghost use Rattle.rehearsal.specs.Scenes.{scene-of, by-office, by-warden, by-reader, Made, Stays, Arrived, sending, Lied, If-turned-away};
+ghost use Rattle.rehearsal.specs.Ways.{packets-of};
+ghost use Rattle.rehearsal.specs.Scenes.{scene-of, Stays, OfficeMade, WardenMade, ReaderMade, ticked, at-office, at-warden, at-reader, Arrived, sending, Lied, If-turned-away};
 use crate::cast::Cast;
 use crate::command::Saying;
 use crate::failure::Failure;
@@ -30,6 +29,7 @@ use notes::quorum::Quorum;
 use notes::value::Value;
 use notes::warden_id::WardenId;
 use parties::message::Message;
+use parties::message::Sends;
 use parties::step::OfficeOutcome;
 use parties::step::ReaderOutcome;
 use parties::step::WardenOutcome;
@@ -73,55 +73,51 @@ impl Stage {
     /// The office is to write this value.
     pub fn write(&mut self, value: Value) -> Result<OfficeOutcome, AllocError>
         ensures stays { λ _. ⌜ Stays (now (self .entry)) (now (self .exit)) ⌝ }
-        ensures did { λ r. ⌜ made r (λ o. Made (write-on (scene-of (now (self .entry)) .desk) (bytes-of value)) (by-office (now (self .entry) .cast .quorum .wardens)) (scene-of (now (self .entry))) (scene-of (now (self .exit))) (office-outcome o)) ⌝ }
+        ensures did { λ r. ⌜ made r (OfficeMade (now (self .entry)) (now (self .exit)) (write-on (scene-of (now (self .entry)) .desk) (bytes-of value))) ⌝ }
     {
         let step = self.cast.desk.write(value);
-        self.way
-            .send(self.cast.quorum.wardens, PartyId(OFFICE), step.sends)?;
+        self.send(PartyId(OFFICE), step.sends)?;
         Ok(step.outcome)
     }
 
     /// Time passes for the office.
     pub fn tick_office(&mut self) -> Result<OfficeOutcome, AllocError>
         ensures stays { λ _. ⌜ Stays (now (self .entry)) (now (self .exit)) ⌝ }
-        ensures did { λ r. ⌜ made r (λ o. Made (office-tick (scene-of (now (self .entry)) .desk)) (by-office (now (self .entry) .cast .quorum .wardens)) (scene-of (now (self .entry))) (scene-of (now (self .exit))) (office-outcome o)) ⌝ }
+        ensures did { λ r. ⌜ made r (OfficeMade (now (self .entry)) (now (self .exit)) (office-tick (scene-of (now (self .entry)) .desk))) ⌝ }
     {
         let step = self.cast.desk.tick();
-        self.way
-            .send(self.cast.quorum.wardens, PartyId(OFFICE), step.sends)?;
+        self.send(PartyId(OFFICE), step.sends)?;
         Ok(step.outcome)
     }
 
     /// A reader begins to read.
     pub fn read(&mut self, reader: ReaderId) -> Result<ReaderOutcome, AllocError>
         ensures stays { λ _. ⌜ Stays (now (self .entry)) (now (self .exit)) ⌝ }
-        ensures did { λ r. ⌜ made r (λ o. Made (read-on (scene-of (now (self .entry)) .reader (reader .index)) 0) (by-reader (now (self .entry) .cast .quorum .wardens) (reader .index)) (scene-of (now (self .entry))) (scene-of (now (self .exit))) (reader-outcome o)) ⌝ }
+        ensures did { λ r. ⌜ made r (ReaderMade (now (self .entry)) (now (self .exit)) (reader .index) (read-on (scene-of (now (self .entry)) .reader (reader .index)) 0)) ⌝ }
     {
         let mut party = *self.cast.reader(reader);
         let step = party.read(NOTE);
         self.cast.set_reader(reader, party);
-        self.way
-            .send(self.cast.quorum.wardens, reader.id(), step.sends)?;
+        self.send(reader.id(), step.sends)?;
         Ok(step.outcome)
     }
 
     /// Time passes for a reader.
     pub fn tick_reader(&mut self, reader: ReaderId) -> Result<ReaderOutcome, AllocError>
         ensures stays { λ _. ⌜ Stays (now (self .entry)) (now (self .exit)) ⌝ }
-        ensures did { λ r. ⌜ made r (λ o. Made (reader-tick (numbers-of (now (self .entry) .cast) (reader .index) .0) (numbers-of (now (self .entry) .cast) (reader .index) .1) (scene-of (now (self .entry)) .reader (reader .index))) (by-reader (now (self .entry) .cast .quorum .wardens) (reader .index)) (scene-of (now (self .entry))) (scene-of (now (self .exit))) (reader-outcome o)) ⌝ }
+        ensures did { λ r. ⌜ made r (ReaderMade (now (self .entry)) (now (self .exit)) (reader .index) (ticked (now (self .entry)) (reader .index))) ⌝ }
     {
         let mut party = *self.cast.reader(reader);
         let step = party.tick();
         self.cast.set_reader(reader, party);
-        self.way
-            .send(self.cast.quorum.wardens, reader.id(), step.sends)?;
+        self.send(reader.id(), step.sends)?;
         Ok(step.outcome)
     }
 
     /// A message comes to whom it is for.
     pub fn arrive(&mut self, packet: Packet) -> Result<Arrival, AllocError>
         ensures stays { λ _. ⌜ Stays (now (self .entry)) (now (self .exit)) ⌝ }
-        ensures arrived { λ r. ⌜ made r (λ a. Arrived (now (self .entry)) (now (self .exit)) packet a) ⌝ }
+        ensures arrived { λ r. ⌜ made r (Arrived (now (self .entry)) (now (self .exit)) packet) ⌝ }
     {
         let Some(party) = Party::of(packet.to) else {
             return Ok(Arrival::Nobody);
@@ -136,7 +132,7 @@ impl Stage {
     // What comes to a liar changes nothing.
     fn to_warden(&mut self, warden: WardenId, packet: Packet) -> Result<Arrival, AllocError>
         ensures stays { λ _. ⌜ Stays (now (self .entry)) (now (self .exit)) ⌝ }
-        ensures arrived { λ r. ⌜ (packet .to .0 ≡ warden .index → made r (λ a. Arrived (now (self .entry)) (now (self .exit)) packet a)) ⌝ }
+        ensures arrived { λ r. ⌜ (packet .to .0 ≡ warden .index → made r (Arrived (now (self .entry)) (now (self .exit)) packet)) ⌝ }
     {
         if !self.cast.is_there(warden) {
             return Ok(Arrival::Nobody);
@@ -149,42 +145,44 @@ impl Stage {
 
     fn to_office(&mut self, packet: Packet) -> Result<OfficeOutcome, AllocError>
         ensures stays { λ _. ⌜ Stays (now (self .entry)) (now (self .exit)) ⌝ }
-        ensures did { λ r. ⌜ made r (λ o. Made (office-on (now (self .entry) .cast .quorum .wardens) (now (self .entry) .cast .quorum .faults) (scene-of (now (self .entry)) .desk) (packet .from .0) (message-of (packet .message))) (by-office (now (self .entry) .cast .quorum .wardens)) (scene-of (now (self .entry))) (scene-of (now (self .exit))) (office-outcome o)) ⌝ }
+        ensures did { λ r. ⌜ made r (OfficeMade (now (self .entry)) (now (self .exit)) (at-office (now (self .entry)) packet)) ⌝ }
     {
         let step = self.cast
             .desk
             .on(&self.cast.quorum, packet.from, packet.message);
-        self.way
-            .send(self.cast.quorum.wardens, PartyId(OFFICE), step.sends)?;
+        self.send(PartyId(OFFICE), step.sends)?;
         Ok(step.outcome)
     }
 
     fn to_honest(&mut self, warden: WardenId, packet: Packet) -> Result<WardenOutcome, AllocError>
         ensures stays { λ _. ⌜ Stays (now (self .entry)) (now (self .exit)) ⌝ }
-        ensures did { λ r. ⌜ made r (λ o. Made (warden-on (scene-of (now (self .entry)) .warden (warden .index)) (packet .from .0) (message-of (packet .message))) (by-warden (now (self .entry) .cast .quorum .wardens) (warden .index)) (scene-of (now (self .entry))) (scene-of (now (self .exit))) (warden-outcome o)) ⌝ }
+        ensures did { λ r. ⌜ made r (WardenMade (now (self .entry)) (now (self .exit)) (warden .index) (at-warden (now (self .entry)) (warden .index) packet)) ⌝ }
     {
         let mut party = *self.cast.warden(warden);
         let step = party.on(packet.from, packet.message);
         self.cast.set_warden(warden, party);
-        self.way
-            .send(
-                self.cast.quorum.wardens,
-                PartyId(warden.index as u32),
-                step.sends,
-            )?;
+        self.send(PartyId(warden.index as u32), step.sends)?;
         Ok(step.outcome)
     }
 
     fn to_reader(&mut self, reader: ReaderId, packet: Packet) -> Result<ReaderOutcome, AllocError>
         ensures stays { λ _. ⌜ Stays (now (self .entry)) (now (self .exit)) ⌝ }
-        ensures did { λ r. ⌜ made r (λ o. Made (reader-on (numbers-of (now (self .entry) .cast) (reader .index) .0) (numbers-of (now (self .entry) .cast) (reader .index) .1) (scene-of (now (self .entry)) .reader (reader .index)) (packet .from .0) 0 (message-of (packet .message))) (by-reader (now (self .entry) .cast .quorum .wardens) (reader .index)) (scene-of (now (self .entry))) (scene-of (now (self .exit))) (reader-outcome o)) ⌝ }
+        ensures did { λ r. ⌜ made r (ReaderMade (now (self .entry)) (now (self .exit)) (reader .index) (at-reader (now (self .entry)) (reader .index) packet)) ⌝ }
     {
         let mut party = *self.cast.reader(reader);
         let step = party.on(packet.from, NOTE, packet.message);
         self.cast.set_reader(reader, party);
-        self.way
-            .send(self.cast.quorum.wardens, reader.id(), step.sends)?;
+        self.send(reader.id(), step.sends)?;
         Ok(step.outcome)
+    }
+
+    // What a party sends goes behind all that is on its way.
+    fn send(&mut self, from: PartyId, sends: Sends) -> Result<(), AllocError>
+        ensures cast { λ _. ⌜ now (self .exit) .cast ≡ now (self .entry) .cast ⌝ }
+        ensures seed { λ _. ⌜ now (self .exit) .seed ≡ now (self .entry) .seed ⌝ }
+        ensures way { λ r. ⌜ made r (λ _. packets-of (now (self .exit) .way) ≡ packets-of (now (self .entry) .way) ++ packets (now (self .entry) .cast .quorum .wardens) (from .0) 0 (sends-of sends)) ⌝ }
+    {
+        self.way.send(self.cast.quorum.wardens, from, sends)
     }
 
     /// A liar sends what it likes, to somebody who takes part.
