@@ -1,6 +1,7 @@
 // The messages that are on their way.
 ghost use mathlib.Core.Path.{_≡_};
 ghost use mathlib.Core.List.{[], _∷_, _++_};
+ghost use Prim.Native.Nat.{_+_, _-_, _^_, min};
 ghost use Rattle.std.specs.Of.Vec.{vec-items};
 ghost use Rattle.std.specs.Options.{Cases as BySome};
 ghost use Rattle.std.specs.Vec.{made};
@@ -61,7 +62,8 @@ impl Way {
 
     /// One message is sent.
     pub fn put(&mut self, from: PartyId, to: PartyId, message: Message) -> Result<(), AllocError>
-        ensures { λ r. ⌜ made r (λ _. packets-of (now (self .exit)) ≡ packets-of (now (self .entry)) ++ record { from = from .0; to = to .0; note = 0; message = message-of message } ∷ []) ⌝ }
+        ensures packets { λ r. ⌜ made r (λ _. packets-of (now (self .exit)) ≡ packets-of (now (self .entry)) ++ record { from = from .0; to = to .0; note = 0; message = message-of message } ∷ []) ⌝ }
+        ensures numbered { λ r. ⌜ made r (λ _. (now (self .exit) .sent ≡ min (now (self .entry) .sent + 1) (2 ^ 64 - 1)) × (vec-items (now (self .exit) .packets) ≡ vec-items (now (self .entry) .packets) ++ record { number = now (self .exit) .sent; from = from; to = to; message = message } ∷ [])) ⌝ }
     {
         let number = self.sent.saturating_add(1);
         self.packets

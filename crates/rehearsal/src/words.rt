@@ -6,6 +6,7 @@ ghost use Rattle.std.specs.Text.{digitValue};
 ghost use Rattle.std.specs.Vec.{made};
 ghost use Rattle.std.specs.Written.{decimal};
 ghost use Rattle.notes.specs.Views.{bytes-of};
+ghost use Rattle.rehearsal.specs.Parties.{party-number, Takes-part};
 ghost use Rattle.rehearsal.specs.Words.{Spells};
 use crate::party::Party;
 use crate::party::ReaderId;
@@ -80,7 +81,10 @@ impl<'a> Words<'a> {
         number_of(self.word()?)
     }
 
-    pub fn quorum(&mut self) -> Result<Quorum, ScriptError> {
+    /// How many wardens there are, and how many of them may lie.
+    pub fn quorum(&mut self) -> Result<Quorum, ScriptError>
+        ensures { λ r. ⌜ made r (λ q. q .wardens ≤ 9) ⌝ }
+    {
         let wardens = self.number()?;
         let faults = self.number()?;
         if wardens > MOST_WARDENS || faults > MOST_WARDENS {
@@ -155,7 +159,9 @@ impl<'a> Words<'a> {
 }
 
 // Who has this number.
-fn party_at(number: u64) -> Result<Party, ScriptError> {
+fn party_at(number: u64) -> Result<Party, ScriptError>
+    ensures { λ r. ⌜ Cases r (λ p. party-number p ≡ number) (λ _. Takes-part number → ⊥) ⌝ }
+{
     let Ok(id) = u32::try_from(number) else {
         return Err(ScriptError::NoSuchParty);
     };

@@ -3,4 +3,4 @@ use Rattle.std.proofs.shelf.Lists.{map-push}
 use Rattle.rehearsal.proofs.way.Way.put.Needs as need
 
 pub returns : need.returns
-returns c = search (needs, map-push)
+returns c = record { packets = search (needs, map-push); numbered = search needs }

@@ -5,4 +5,4 @@ pub loop-to-holds : need.loop-to-holds
 loop-to-holds c = each-none _ _
 
 pub loop-to-again : need.loop-to-again
-loop-to-again c = each-more _ _ _ _ _ (c .loop-to .inv) (c .in-Continue-put .ensures tt)
+loop-to-again c = each-more _ _ _ _ _ (c .loop-to .inv) (c .in-Continue-put .ensures tt .packets)
