@@ -102,7 +102,7 @@ impl Command {
 
 impl Clock {
     fn parse(words: &mut Words) -> Result<Clock, ScriptError> {
-        let Some(word) = words.next() else {
+        let Some(word) = words.next_word() else {
             return Ok(Clock::All);
         };
         match party_of(word)? {

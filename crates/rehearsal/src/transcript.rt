@@ -81,18 +81,18 @@ impl Transcript {
             OfficeOutcome::Resent => writeln!(self.text, "  office sends edition {edition} again"),
             OfficeOutcome::NoWriting => writeln!(self.text, "  office: nothing to do"),
             outcome => {
-                write!(self.text, "  office: ")?;
+                write!(self.text, "  office")?;
                 self.office_came_to(desk, outcome)
             }
         }
     }
 
-    // What a message came to at the office.
+    // The rest of a line: what something came to at the office.
     fn office_came_to(&mut self, desk: &Desk, outcome: OfficeOutcome) -> fmt::Result {
         match outcome {
-            OfficeOutcome::Counted => writeln!(self.text, "counted"),
-            OfficeOutcome::Ended => writeln!(self.text, "ended {}", desk.now.edition.0),
-            OfficeOutcome::Refused(refusal) => writeln!(self.text, "{}", Text(refusal)),
+            OfficeOutcome::Counted => writeln!(self.text, ": counted"),
+            OfficeOutcome::Ended => writeln!(self.text, ": ended {}", desk.now.edition.0),
+            OfficeOutcome::Refused(refusal) => writeln!(self.text, ": {}", Text(refusal)),
             OfficeOutcome::Begun | OfficeOutcome::Resent | OfficeOutcome::NoWriting => Ok(()),
         }
     }
@@ -108,20 +108,20 @@ impl Transcript {
             ReaderOutcome::AskedAgain => writeln!(self.text, "  {id} asks again"),
             ReaderOutcome::NoReading => writeln!(self.text, "  {id}: nothing to do"),
             outcome => {
-                write!(self.text, "  {id}: ")?;
+                write!(self.text, "  {id}")?;
                 self.reader_came_to(outcome)
             }
         }
     }
 
-    // What a message came to at a reader.
+    // The rest of a line: what something came to at a reader.
     fn reader_came_to(&mut self, outcome: ReaderOutcome) -> fmt::Result {
         match outcome {
-            ReaderOutcome::Heard => writeln!(self.text, "heard"),
-            ReaderOutcome::Undecided => writeln!(self.text, "undecided"),
-            ReaderOutcome::Read(note) => writeln!(self.text, "note {}", Text(note)),
-            ReaderOutcome::Unsure => writeln!(self.text, "unsure"),
-            ReaderOutcome::Refused(refusal) => writeln!(self.text, "{}", Text(refusal)),
+            ReaderOutcome::Heard => writeln!(self.text, ": heard"),
+            ReaderOutcome::Undecided => writeln!(self.text, ": undecided"),
+            ReaderOutcome::Read(note) => writeln!(self.text, ": note {}", Text(note)),
+            ReaderOutcome::Unsure => writeln!(self.text, ": unsure"),
+            ReaderOutcome::Refused(refusal) => writeln!(self.text, ": {}", Text(refusal)),
             ReaderOutcome::Asked
             | ReaderOutcome::AskedAgain
             | ReaderOutcome::Retried
@@ -135,18 +135,11 @@ impl Transcript {
         let to = Text(packet.to);
         write!(self.text, "  {number}: comes to {to}")?;
         match arrival {
-            Arrival::Liar => return writeln!(self.text, ", who lies"),
-            Arrival::Nobody => return writeln!(self.text, ", who is not there"),
-            Arrival::Office(_) | Arrival::Warden(_) | Arrival::Reader(_) => write!(
-                self.text,
-                ": "
-            )?,
-        }
-        match arrival {
             Arrival::Office(outcome) => self.office_came_to(desk, outcome),
-            Arrival::Warden(outcome) => writeln!(self.text, "{}", Text(outcome)),
+            Arrival::Warden(outcome) => writeln!(self.text, ": {}", Text(outcome)),
             Arrival::Reader(outcome) => self.reader_came_to(outcome),
-            Arrival::Liar | Arrival::Nobody => Ok(()),
+            Arrival::Liar => writeln!(self.text, ", who lies"),
+            Arrival::Nobody => writeln!(self.text, ", who is not there"),
         }
     }
 

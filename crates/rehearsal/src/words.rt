@@ -36,7 +36,8 @@ impl<'a> Words<'a> {
         Words { rest: Some(line) }
     }
 
-    pub fn next(&mut self) -> Option<&'a str> {
+    /// The next word, if there is one.
+    pub fn next_word(&mut self) -> Option<&'a str> {
         let text = self.rest?;
         match text.split_once(' ') {
             Some((word, rest)) => {
@@ -50,8 +51,9 @@ impl<'a> Words<'a> {
         }
     }
 
+    /// The next word, which is to be there.
     pub fn word(&mut self) -> Result<&'a str, ScriptError> {
-        match self.next() {
+        match self.next_word() {
             Some(word) => Ok(word),
             None => Err(ScriptError::WordMissing),
         }
@@ -123,7 +125,7 @@ impl<'a> Words<'a> {
     /// A number, or two parties.
     pub fn which(&mut self) -> Result<Which, ScriptError> {
         let first = self.word()?;
-        match self.next() {
+        match self.next_word() {
             None => Ok(Which::Number(number_of(first)?)),
             Some(second) => Ok(Which::Between(party_of(first)?, party_of(second)?)),
         }
@@ -131,7 +133,7 @@ impl<'a> Words<'a> {
 
     /// The bytes that the last word of a line writes; no bytes are no word.
     pub fn value(&mut self) -> Result<Value, ScriptError> {
-        match self.next() {
+        match self.next_word() {
             None => value_of(b""),
             Some("") => Err(ScriptError::BytesExpected),
             Some(word) => value_of(word.as_bytes()),

@@ -1,4 +1,9 @@
 // Plays a script from the standard input, and prints its transcript.
+ghost use mathlib.Core.Path.{_≡_};
+ghost use Prim.Native.Nat.{ℕ, _<_, _≤_};
+ghost use lib.Dec.{ltb};
+ghost use lib.ListN.{length, getD};
+ghost use Rattle.std.specs.Of.Vec.{vec-len};
 use rehearsal::rehearsal::Rehearsal;
 use std::alloc::AllocError;
 use std::env;
@@ -42,7 +47,12 @@ enum Got {
 }
 
 // How many bytes stand before the first line break, and whether there is one.
-fn up_to_break(held: &[u8]) -> (usize, bool) {
+fn up_to_break(held: &[u8]) -> (usize, bool)
+    ensures within { λ r. ⌜ r .0 ≤ length (now (held .entry)) ⌝ }
+    ensures before { λ r. ⌜ ((k : ℕ) → k < r .0 → getD (now (held .entry)) k 0 ≡ 10 → ⊥) ⌝ }
+    ensures found { λ r. ⌜ (r .0 < length (now (held .entry)) → getD (now (held .entry)) (r .0) 0 ≡ 10) ⌝ }
+    ensures whole { λ r. ⌜ r .1 ≡ ltb (r .0) (length (now (held .entry))) ⌝ }
+{
     for (place, byte) in held.iter().enumerate() {
         if *byte == b'\n' {
             return (place, true);
@@ -52,7 +62,9 @@ fn up_to_break(held: &[u8]) -> (usize, bool) {
 }
 
 // Adds to a line, unless it then is too long.
-fn keep(line: &mut Vec<u8>, more: &[u8]) -> Result<bool, AllocError> {
+fn keep(line: &mut Vec<u8>, more: &[u8]) -> Result<bool, AllocError>
+    ensures { λ _. ⌜ (vec-len (now (line .entry)) ≤ 4096 → vec-len (now (line .exit)) ≤ 4096) ⌝ }
+{
     if more.len() > LONGEST_LINE.saturating_sub(line.len()) {
         return Ok(false);
     }
@@ -71,8 +83,7 @@ fn next_line(input: &mut BufReader<Stdin>, line: &mut Vec<u8>) -> io::Result<Got
             break;
         }
         let (length, is_whole) = up_to_break(held);
-        let part = held.get(0..length).unwrap_or(b"");
-        is_long = is_long || !keep(line, part)?;
+        is_long = is_long || !keep(line, &held[0..length])?;
         got = if is_long { Got::LongLine } else { Got::Line };
         input.consume(length);
         if is_whole {
