@@ -7,12 +7,12 @@ use Rattle.register.specs.Note.{Note, none}
 use Rattle.notes.specs.Views.{note-of}
 use Rattle.protocol.specs.Reader as rules
 use Rattle.parties.specs.Readers.{reader-of}
-use Rattle.parties.specs.declared.warden.Warden.{Warden}
+use Rattle.parties.specs.declared.slot.Slot.{Slot}
 use Rattle.parties.specs.declared.reader.Reader.{Reader}
 use Rattle.rehearsal.specs.declared.cast.Cast.{Cast}
 
 -- what each warden has
-abbrev pub held-by : Warden → Note
+abbrev pub held-by : Slot → Note
 held-by w = note-of (w .held)
 
 abbrev pub notes-of : Cast → ℕ → Note

@@ -18,9 +18,9 @@ use notes::ids::RoundNumber;
 use notes::quorum::Quorum;
 use notes::warden_id::WardenId;
 use notes::warden_set::WardenSet;
-use parties::office::Desk;
+use parties::desk::Desk;
 use parties::reader::Reader;
-use parties::warden::Warden;
+use parties::slot::Slot;
 
 /// The number of each reader's first round.
 pub const FIRST_ROUND: RoundNumber = RoundNumber(1);
@@ -30,7 +30,7 @@ pub const FIRST_ROUND: RoundNumber = RoundNumber(1);
 pub struct Cast {
     pub quorum: Quorum,
     pub desk: Desk,
-    pub wardens: [Warden; 63],
+    pub wardens: [Slot; 63],
     pub readers: [Reader; 4],
     pub liars: WardenSet,
 }
@@ -48,19 +48,19 @@ impl Cast {
         Cast {
             quorum,
             desk: Desk::new(),
-            wardens: [Warden::new(); 63],
+            wardens: [Slot::new(); 63],
             readers: [Reader::new(quorum, FIRST_ROUND); 4],
             liars: WardenSet::new(),
         }
     }
 
-    pub fn warden(&self, id: WardenId) -> &Warden
+    pub fn warden(&self, id: WardenId) -> &Slot
         ensures { λ r. ⌜ held-by (now r) ≡ notes-of (now (self .entry)) (id .index) ⌝ }
     {
         &self.wardens[id.index as usize]
     }
 
-    pub fn set_warden(&mut self, id: WardenId, warden: Warden)
+    pub fn set_warden(&mut self, id: WardenId, warden: Slot)
         ensures notes { λ _. ⌜ notes-of (now (self .exit)) ≡ put (id .index) (held-by warden) (notes-of (now (self .entry))) ⌝ }
         ensures desk { λ _. ⌜ now (self .exit) .desk ≡ now (self .entry) .desk ⌝ }
         ensures readers { λ _. ⌜ now (self .exit) .readers ≡ now (self .entry) .readers ⌝ }

@@ -17,7 +17,7 @@ use crate::way::Packet;
 use crate::way::Way;
 use notes::quorum::Quorum;
 use notes::warden_id::WardenId;
-use parties::office::Desk;
+use parties::desk::Desk;
 use parties::step::OfficeOutcome;
 use parties::step::ReaderOutcome;
 use std::alloc::Global;
