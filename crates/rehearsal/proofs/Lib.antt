@@ -3,3 +3,5 @@ mod Sends
 mod Numbers
 mod Hex
 mod Places
+mod Heard
+mod Outcomes

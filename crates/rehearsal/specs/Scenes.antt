@@ -6,22 +6,26 @@ use mathlib.Core.Bool.{true, false}
 use mathlib.Core.List.{List, [], _∷_, _++_}
 use Prim.Native.Nat.{ℕ, _+_, _<_, _≤_}
 use Rattle.register.specs.Count.{put}
-use Rattle.register.specs.Note.{Note}
+use Rattle.std.specs.Of.Vec.{vec-items, vec-len}
+use Rattle.register.specs.Note.{Note, none}
 use Rattle.std.specs.declared.result.Result.{Result}
 use Rattle.std.specs.declared.result.Result.the-variants.{Ok, Err}
 use Rattle.notes.specs.Views.{members}
 use Rattle.protocol.specs.Message as rules
 use Rattle.protocol.specs.Message.{office, packets}
 use Rattle.protocol.specs.Step.{Step, Outcome}
-use Rattle.protocol.specs.Warden.{WardenDone, warden-on}
-use Rattle.protocol.specs.Office.{Desk, OfficeDone, office-on}
+use Rattle.protocol.specs.Warden.{WardenDone}
 use Rattle.protocol.specs.Reader.{Reader as AnyReader, ReaderDone, reader-tick, reader-on}
-use Rattle.parties.specs.Desks.{desk-of}
+use Rattle.protocol_tables.specs.Keep.{Keep, empty}
+use Rattle.protocol_tables.specs.Warden.{warden-keeps}
+use Rattle.protocol_tables.specs.Office as offices
+use Rattle.protocol_tables.specs.Office.{Letter, OfficeStep, office-hears}
 use Rattle.parties.specs.Views.{message-of, office-outcome, warden-outcome, reader-outcome}
 use Rattle.parties.specs.declared.step.OfficeOutcome.{OfficeOutcome}
 use Rattle.parties.specs.declared.step.WardenOutcome.{WardenOutcome}
 use Rattle.parties.specs.declared.step.ReaderOutcome.{ReaderOutcome}
-use Rattle.rehearsal.specs.Casts.{notes-of, readers-of, numbers-of}
+use Rattle.parties_tables.specs.Offices.{office-of}
+use Rattle.rehearsal.specs.Casts.{keeps-of, readers-of, numbers-of}
 use Rattle.rehearsal.specs.Ways.{packets-of}
 use Rattle.rehearsal.specs.declared.failure.Failure.{Failure}
 use Rattle.rehearsal.specs.declared.failure.Failure.the-variants.{Script, Memory}
@@ -32,79 +36,97 @@ use Rattle.rehearsal.specs.declared.way.Packet.{Packet}
 
 -- on-way: what is on its way, the oldest first
 pub record Scene : Type 0 where
-  pub desk : Desk
-  pub warden : ℕ → Note
+  pub office : offices.Office
+  pub warden : ℕ → Keep Note
   pub reader : ℕ → AnyReader
   pub on-way : List rules.Packet
 
 abbrev pub scene-of : Stage → Scene
-scene-of s = record { desk = desk-of (s .cast .desk); warden = notes-of (s .cast); reader = readers-of (s .cast); on-way = packets-of (s .way) }
+scene-of s = record { office = office-of (s .cast .office); warden = keeps-of (vec-items (s .cast .wardens)); reader = readers-of (s .cast .readers); on-way = packets-of (s .way) }
+
+-- how many wardens all reckon with
+abbrev pub wardens-of : Stage → ℕ
+wardens-of s = s .cast .office .quorum .wardens
+
+-- the packets of the office's letters, one letter after the other
+abbrev pub posted : (n : ℕ) → List Letter → List rules.Packet
+posted n [] = []
+posted n (l ∷ ls) = packets n office (l .note) (l .sends) ++ posted n ls
 
 -- A PARTY HAS MADE A STEP, with n wardens: what it sends goes behind all that is on its way
-abbrev pub by-office : (n : ℕ) → Step Desk OfficeDone → Scene → Scene
-by-office n o s = record { desk = o .next; warden = s .warden; reader = s .reader; on-way = s .on-way ++ packets n office 0 (o .sends) }
+abbrev pub by-office : (n : ℕ) → OfficeStep → Scene → Scene
+by-office n o s = record { office = o .next; warden = s .warden; reader = s .reader; on-way = s .on-way ++ posted n (o .letters) }
 
-abbrev pub by-warden : (n i : ℕ) → Step Note WardenDone → Scene → Scene
-by-warden n i o s = record { desk = s .desk; warden = put i (o .next) (s .warden); reader = s .reader; on-way = s .on-way ++ packets n i 0 (o .sends) }
+-- a warden, about the note k
+abbrev pub by-warden : (n i k : ℕ) → Step (Keep Note) WardenDone → Scene → Scene
+by-warden n i k o s =
+    record { office = s .office; warden = put i (o .next) (s .warden); reader = s .reader; on-way = s .on-way ++ packets n i k (o .sends) }
 
 abbrev pub by-reader : (n j : ℕ) → Step AnyReader ReaderDone → Scene → Scene
-by-reader n j o s = record { desk = s .desk; warden = s .warden; reader = put j (o .next) (s .reader); on-way = s .on-way ++ packets n (65 + j) 0 (o .sends) }
+by-reader n j o s =
+    record { office = s .office; warden = s .warden; reader = put j (o .next) (s .reader); on-way = s .on-way ++ packets n (65 + j) (o .next .note) (o .sends) }
 
--- the step was made, and came to this
-pub record Made {S D : Type 0} (step : Step S D) (by : Step S D → Scene → Scene) (before after : Scene) (outcome : Outcome D) : Type 0 where
-  pub scene-is : after ≡ by step before
-  pub outcome-is : outcome ≡ step .outcome
+-- a step was made that leads to this scene, and comes to this
+pub record Made {D : Type 0} (scene after : Scene) (comes-to outcome : Outcome D) : Type 0 where
+  pub scene-is : after ≡ scene
+  pub outcome-is : outcome ≡ comes-to
 
--- what stays as it is in every step: how many wardens there are, for all and for each reader; who lies; the seed
+-- what stays as it is in every step: how many wardens there are, for all and for each reader, and how many take part; who lies; the seed
 pub record Stays (s t : Stage) : Type 0 where
-  pub numbers-are : numbers-of (t .cast) ≡ numbers-of (s .cast)
-  pub quorum-is : t .cast .quorum ≡ s .cast .quorum
+  pub numbers-are : numbers-of (t .cast .readers) ≡ numbers-of (s .cast .readers)
+  pub quorum-is : t .cast .office .quorum ≡ s .cast .office .quorum
+  pub wardens-are : vec-len (t .cast .wardens) ≡ vec-len (s .cast .wardens)
   pub liars-is : t .cast .liars ≡ s .cast .liars
   pub seed-is : t .seed ≡ s .seed
 
--- the office has made this step; the warden i; the reader j, counted from 0
-abbrev pub OfficeMade : (s t : Stage) → Step Desk OfficeDone → OfficeOutcome → Type 0
-OfficeMade s t step o = Made step (by-office (s .cast .quorum .wardens)) (scene-of s) (scene-of t) (office-outcome o)
+-- the office has made this step; the warden i, about the note k; the reader j, counted from 0
+abbrev pub OfficeMade : (s t : Stage) → OfficeStep → OfficeOutcome → Type 0
+OfficeMade s t step o = Made (by-office (wardens-of s) step (scene-of s)) (scene-of t) (step .outcome) (office-outcome o)
 
-abbrev pub WardenMade : (s t : Stage) (i : ℕ) → Step Note WardenDone → WardenOutcome → Type 0
-WardenMade s t i step o = Made step (by-warden (s .cast .quorum .wardens) i) (scene-of s) (scene-of t) (warden-outcome o)
+abbrev pub WardenMade : (s t : Stage) (i k : ℕ) → Step (Keep Note) WardenDone → WardenOutcome → Type 0
+WardenMade s t i k step o = Made (by-warden (wardens-of s) i k step (scene-of s)) (scene-of t) (step .outcome) (warden-outcome o)
 
 abbrev pub ReaderMade : (s t : Stage) (j : ℕ) → Step AnyReader ReaderDone → ReaderOutcome → Type 0
-ReaderMade s t j step o = Made step (by-reader (s .cast .quorum .wardens) j) (scene-of s) (scene-of t) (reader-outcome o)
+ReaderMade s t j step o = Made (by-reader (wardens-of s) j step (scene-of s)) (scene-of t) (step .outcome) (reader-outcome o)
 
 -- WHAT IS DONE when time passes for a reader, and when a message comes
 abbrev pub ticked : Stage → (j : ℕ) → Step AnyReader ReaderDone
-ticked s j = reader-tick (numbers-of (s .cast) j .0) (numbers-of (s .cast) j .1) (scene-of s .reader j)
+ticked s j = reader-tick (numbers-of (s .cast .readers) j .0) (numbers-of (s .cast .readers) j .1) (scene-of s .reader j)
 
-abbrev pub at-office : Stage → Packet → Step Desk OfficeDone
-at-office s p = office-on (s .cast .quorum .wardens) (s .cast .quorum .faults) (scene-of s .desk) (p .from .0) (message-of (p .message))
+abbrev pub at-office : Stage → Packet → OfficeStep
+at-office s p = office-hears (wardens-of s) (s .cast .office .quorum .faults) (scene-of s .office) (p .from .0) (p .note .0) (message-of (p .message))
 
-abbrev pub at-warden : Stage → (i : ℕ) → Packet → Step Note WardenDone
-at-warden s i p = warden-on (scene-of s .warden i) (p .from .0) (message-of (p .message))
+abbrev pub at-warden : Stage → (i : ℕ) → Packet → Step (Keep Note) WardenDone
+at-warden s i p = warden-keeps (scene-of s .warden i) (p .from .0) (p .note .0) (message-of (p .message))
 
 abbrev pub at-reader : Stage → (j : ℕ) → Packet → Step AnyReader ReaderDone
-at-reader s j p = reader-on (numbers-of (s .cast) j .0) (numbers-of (s .cast) j .1) (scene-of s .reader j) (p .from .0) 0 (message-of (p .message))
+at-reader s j p = reader-on (numbers-of (s .cast .readers) j .0) (numbers-of (s .cast .readers) j .1) (scene-of s .reader j) (p .from .0) (p .note .0) (message-of (p .message))
 
--- somebody of this number takes part, where there are so many wardens
+-- somebody of this number takes part, where so many wardens do; no warden has a number above 62
 abbrev pub Present : (wardens number : ℕ) → Type 0
-Present n i = (i < n) ⊎ ((i ≡ office) ⊎ ((65 ≤ i) × (i < 69)))
+Present n i = ((i < n) × (i < 63)) ⊎ ((i ≡ office) ⊎ ((65 ≤ i) × (i < 69)))
 
 -- A MESSAGE HAS COME, and this is what it came to
 abbrev pub Arrived : (s t : Stage) → Packet → Arrival → Type 0
 Arrived s t p (Office o) = (p .to .0 ≡ office) × OfficeMade s t (at-office s p) o
 Arrived s t p (Warden o) =
-    (p .to .0 < s .cast .quorum .wardens) × (members (s .cast .liars) (p .to .0) ≡ false) × WardenMade s t (p .to .0) (at-warden s (p .to .0) p) o
+    (p .to .0 < vec-len (s .cast .wardens)) × (members (s .cast .liars) (p .to .0) ≡ false) × WardenMade s t (p .to .0) (p .note .0) (at-warden s (p .to .0) p) o
 Arrived s t p (Reader o) = (j : ℕ) × (p .to .0 ≡ 65 + j) × ReaderMade s t j (at-reader s j p) o
-Arrived s t p Liar = (p .to .0 < s .cast .quorum .wardens) × (members (s .cast .liars) (p .to .0) ≡ true) × (t ≡ s)
-Arrived s t p Nobody = (Present (s .cast .quorum .wardens) (p .to .0) → ⊥) × (t ≡ s)
+Arrived s t p Liar = (p .to .0 < vec-len (s .cast .wardens)) × (members (s .cast .liars) (p .to .0) ≡ true) × (t ≡ s)
+Arrived s t p Nobody = (Present (vec-len (s .cast .wardens)) (p .to .0) → ⊥) × (t ≡ s)
 
 -- one message is sent
-abbrev pub sending : (from to : ℕ) → rules.Message → Scene → Scene
-sending from to m s = record { desk = s .desk; warden = s .warden; reader = s .reader; on-way = s .on-way ++ (record { from = from; to = to; note = 0; message = m } ∷ []) }
+abbrev pub sending : (from to k : ℕ) → rules.Message → Scene → Scene
+sending from to k m s =
+    record { office = s .office; warden = s .warden; reader = s .reader; on-way = s .on-way ++ (record { from = from; to = to; note = k; message = m } ∷ []) }
 
--- a liar to whom p came has said nothing, or has sent one message as from itself
+-- a liar to whom p came has said nothing, or has sent one message as from itself about the same note
 abbrev pub Lied : (s t : Scene) → Packet → Type 0
-Lied s t p = (t ≡ s) ⊎ ((to : ℕ) × (m : rules.Message) × (t ≡ sending (p .to .0) to m s))
+Lied s t p = (t ≡ s) ⊎ ((to : ℕ) × (m : rules.Message) × (t ≡ sending (p .to .0) to (p .note .0) m s))
+
+-- the warden i has lost all that it had
+abbrev pub forgetting : (i : ℕ) → Scene → Scene
+forgetting i s = record { office = s .office; warden = put i (empty none) (s .warden); reader = s .reader; on-way = s .on-way }
 
 -- what a command that was turned away left as it was
 abbrev pub If-turned-away : Result Unit Failure → Type 0 → Type 0

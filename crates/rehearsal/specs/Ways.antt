@@ -15,9 +15,8 @@ use Rattle.rehearsal.specs.declared.way.Way.{Way}
 use Rattle.rehearsal.specs.declared.way.Which.{Which}
 use Rattle.rehearsal.specs.declared.way.Which.the-variants.{Number, Between}
 
--- all messages of a rehearsal are about the note 0
 abbrev pub packet-of : Packet → rules.Packet
-packet-of p = record { from = p .from .0; to = p .to .0; note = 0; message = message-of (p .message) }
+packet-of p = record { from = p .from .0; to = p .to .0; note = p .note .0; message = message-of (p .message) }
 
 abbrev pub packets-of : Way → List rules.Packet
 packets-of w = map packet-of (vec-items (w .packets))

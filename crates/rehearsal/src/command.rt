@@ -5,6 +5,7 @@ use crate::script_error::ScriptError;
 use crate::way::Which;
 use crate::words::Words;
 use crate::words::party_of;
+use notes::ids::NoteId;
 use notes::quorum::Quorum;
 use notes::value::Value;
 use notes::warden_id::WardenId;
@@ -24,11 +25,13 @@ pub enum Line {
 pub enum Command {
     /// A warden lies from now on.
     Liar(WardenId),
+    /// A warden loses all that it had.
+    Forget(WardenId),
     /// Liars answer by this seed from now on.
     Seed(u64),
-    Write(Value),
+    Write(NoteId, Value),
     Tick(Clock),
-    Read(ReaderId),
+    Read(ReaderId, NoteId),
     Deliver(Which),
     DeliverAll,
     Lose(Which),
@@ -38,11 +41,12 @@ pub enum Command {
     Show,
 }
 
-/// What a liar sends, and to whom.
+/// What a liar sends, about which note and to whom.
 #[derive(Clone, Copy)]
 pub struct Saying {
     pub liar: WardenId,
     pub to: Party,
+    pub note: NoteId,
     pub message: Message,
 }
 
@@ -77,10 +81,11 @@ impl Command {
     fn parse(name: &str, words: &mut Words) -> Result<Command, ScriptError> {
         match name {
             "liar" => Ok(Command::Liar(words.warden()?)),
+            "forget" => Ok(Command::Forget(words.warden()?)),
             "seed" => Ok(Command::Seed(words.number()?)),
-            "write" => Ok(Command::Write(words.value()?)),
+            "write" => Ok(Command::Write(words.note_id()?, words.value()?)),
             "tick" => Ok(Command::Tick(Clock::parse(words)?)),
-            "read" => Ok(Command::Read(words.reader()?)),
+            "read" => Ok(Command::Read(words.reader()?, words.note_id()?)),
             "say" => Ok(Command::Say(Saying::parse(words)?)),
             "show" => Ok(Command::Show),
             _ => Command::parse_delivery(name, words),
@@ -117,7 +122,12 @@ impl Saying {
     fn parse(words: &mut Words) -> Result<Saying, ScriptError> {
         let liar = words.warden()?;
         let to = words.party()?;
-        let message = words.message()?;
-        Ok(Saying { liar, to, message })
+        let (note, message) = words.message()?;
+        Ok(Saying {
+            liar,
+            to,
+            note,
+            message,
+        })
     }
 }

@@ -16,6 +16,7 @@ use crate::stage::Stage;
 use crate::transcript::Transcript;
 use crate::way::Packet;
 use crate::way::Which;
+use notes::ids::NoteId;
 use notes::value::Value;
 
 /// The most messages that come by one `deliver all`.
@@ -30,13 +31,17 @@ pub fn play(stage: &mut Stage, out: &mut Transcript, command: Command) -> Result
             stage.cast.turn(warden)?;
             Ok(out.turns(warden)?)
         }
+        Command::Forget(warden) => {
+            stage.cast.forget(stage.heap, warden)?;
+            Ok(out.forgets(warden)?)
+        }
         Command::Seed(seed) => {
             stage.seed = Some(Seed { state: seed });
             Ok(out.seeds(seed)?)
         }
-        Command::Write(value) => write(stage, out, value),
+        Command::Write(note, value) => write(stage, out, note, value),
         Command::Tick(clock) => tick(stage, out, clock),
-        Command::Read(reader) => read(stage, out, reader),
+        Command::Read(reader, note) => read(stage, out, reader, note),
         Command::Deliver(which) => deliver(stage, out, which),
         Command::DeliverAll => deliver_all(stage, out),
         Command::Lose(which) => lose(stage, out, which),
@@ -47,12 +52,17 @@ pub fn play(stage: &mut Stage, out: &mut Transcript, command: Command) -> Result
     }
 }
 
-fn write(stage: &mut Stage, out: &mut Transcript, value: Value) -> Result<(), Failure>
+fn write(
+    stage: &mut Stage,
+    out: &mut Transcript,
+    note: NoteId,
+    value: Value,
+) -> Result<(), Failure>
     ensures { λ r. ⌜ If-turned-away r ⊥ ⌝ }
 {
     let before = stage.way.packets.len();
-    let outcome = stage.write(value)?;
-    out.office(&stage.cast.desk, outcome)?;
+    let outcome = stage.write(note, value)?;
+    out.writes(note, stage.cast.written(note), outcome)?;
     Ok(out.sent(&stage.way, before)?)
 }
 
@@ -70,8 +80,8 @@ fn tick_office(stage: &mut Stage, out: &mut Transcript) -> Result<(), Failure>
     ensures { λ r. ⌜ If-turned-away r ⊥ ⌝ }
 {
     let before = stage.way.packets.len();
-    let outcome = stage.tick_office()?;
-    out.office(&stage.cast.desk, outcome)?;
+    stage.tick_office()?;
+    out.office_ticks(&stage.cast.office)?;
     Ok(out.sent(&stage.way, before)?)
 }
 
@@ -91,18 +101,23 @@ fn tick_all(stage: &mut Stage, out: &mut Transcript) -> Result<(), Failure>
     tick_office(stage, out)?;
     for index in 0..4 {
         let reader = ReaderId { index };
-        if stage.cast.has_read(reader) {
+        if stage.cast.readers.has_read(reader) {
             tick_reader(stage, out, reader)?;
         }
     }
     Ok(())
 }
 
-fn read(stage: &mut Stage, out: &mut Transcript, reader: ReaderId) -> Result<(), Failure>
+fn read(
+    stage: &mut Stage,
+    out: &mut Transcript,
+    reader: ReaderId,
+    note: NoteId,
+) -> Result<(), Failure>
     ensures { λ r. ⌜ If-turned-away r ⊥ ⌝ }
 {
     let before = stage.way.packets.len();
-    let outcome = stage.read(reader)?;
+    let outcome = stage.read(reader, note)?;
     out.reader(&stage.cast, reader, outcome)?;
     Ok(out.sent(&stage.way, before)?)
 }
@@ -143,7 +158,7 @@ fn bring(stage: &mut Stage, out: &mut Transcript, packet: Packet) -> Result<(), 
     if let Arrival::Liar = arrival {
         stage.lie(packet)?;
     }
-    out.comes(&stage.cast.desk, packet, arrival)?;
+    out.comes(&stage.cast, packet, arrival)?;
     Ok(out.sent(&stage.way, before)?)
 }
 

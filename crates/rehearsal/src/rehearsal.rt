@@ -1,6 +1,7 @@
 // A rehearsal, line by line of its script.
 use crate::command::Line;
 use crate::failure::Failure;
+use crate::failure::FailureFromMemory;
 use crate::failure::FailureFromScript;
 use crate::failure::FailureFromText;
 use crate::play::play;
@@ -59,7 +60,7 @@ impl Rehearsal {
         match line {
             Line::Blank | Line::Remark => Ok(()),
             Line::Begin(quorum) => {
-                self.stage = Some(Stage::new(self.heap, quorum));
+                self.stage = Some(Stage::new(self.heap, quorum)?);
                 Ok(self.transcript.begins(quorum)?)
             }
             Line::Do(command) => match &mut self.stage {

@@ -1,17 +1,21 @@
-// The parties and what is on its way between them. Whatever a party does is a step of `parties`.
+// The parties and what is on its way between them. Whatever a party does is a step of `parties` or `parties_tables`.
 ghost use mathlib.Core.Path.{_≡_};
 ghost use mathlib.Core.Bool.{true};
-ghost use mathlib.Core.List.{[], _++_};
+ghost use mathlib.Core.List.{[], _++_, map};
+ghost use Prim.Native.Nat.{_<_, _≤_};
+ghost use Rattle.std.specs.Of.Vec.{vec-items, vec-len};
 ghost use Rattle.std.specs.Vec.{made};
 ghost use Rattle.register.specs.Note.{none};
 ghost use Rattle.notes.specs.Views.{bytes-of, members};
 ghost use Rattle.protocol.specs.Message.{packets};
-ghost use Rattle.protocol.specs.Office.{empty-desk, write-on, office-tick};
 ghost use Rattle.protocol.specs.Reader.{new-reader, read-on};
+ghost use Rattle.protocol_tables.specs.Keep.{empty};
+ghost use Rattle.protocol_tables.specs.Office.{empty-office, office-writes, office-ticks};
 ghost use Rattle.parties.specs.Views.{message-of, sends-of};
+ghost use Rattle.parties_tables.specs.Offices.{letter-of};
 ghost use Rattle.rehearsal.specs.Parties.{party-number};
 ghost use Rattle.rehearsal.specs.Ways.{packets-of};
-ghost use Rattle.rehearsal.specs.Scenes.{scene-of, Stays, OfficeMade, WardenMade, ReaderMade, ticked, at-office, at-warden, at-reader, Arrived, sending, Lied, If-turned-away};
+ghost use Rattle.rehearsal.specs.Scenes.{scene-of, wardens-of, posted, by-office, Stays, OfficeMade, WardenMade, ReaderMade, ticked, at-office, at-warden, at-reader, Arrived, sending, Lied, If-turned-away};
 use crate::cast::Cast;
 use crate::command::Saying;
 use crate::failure::Failure;
@@ -33,15 +37,14 @@ use parties::message::Sends;
 use parties::step::OfficeOutcome;
 use parties::step::ReaderOutcome;
 use parties::step::WardenOutcome;
+use parties_tables::office::Letter;
 use std::alloc::AllocError;
 use std::alloc::Global;
-
-/// The one note that a rehearsal is about.
-pub const NOTE: NoteId = NoteId(0);
 
 /// The parties, the seed by which liars answer, and what is on its way.
 #[derive(Drop)]
 pub struct Stage {
+    pub heap: Global,
     pub cast: Cast,
     pub seed: Option<Seed>,
     pub way: Way,
@@ -60,45 +63,62 @@ pub enum Arrival {
 
 impl Stage {
     /// Nothing has happened yet, and nobody lies.
-    pub fn new(heap: Global, quorum: Quorum) -> Stage
-        ensures { λ r. ⌜ scene-of r ≡ record { desk = empty-desk; warden = λ i. none; reader = λ j. new-reader 1; on-way = [] } ⌝ }
+    pub fn new(heap: Global, quorum: Quorum) -> Result<Stage, AllocError>
+        ensures scene { λ r. ⌜ made r (λ s. scene-of s ≡ record { office = empty-office; warden = λ i. empty none; reader = λ j. new-reader 1; on-way = [] }) ⌝ }
+        ensures wardens { λ r. ⌜ made r (λ s. (wardens-of s ≡ quorum .wardens) × (vec-len (s .cast .wardens) ≡ quorum .wardens)) ⌝ }
     {
-        Stage {
-            cast: Cast::new(quorum),
+        Ok(Stage {
+            heap,
+            cast: Cast::new(heap, quorum)?,
             seed: None,
             way: Way::new(heap),
+        })
+    }
+
+    /// The office is to write this value of a note.
+    pub fn write(&mut self, note: NoteId, value: Value) -> Result<OfficeOutcome, AllocError>
+        ensures stays { λ _. ⌜ Stays (now (self .entry)) (now (self .exit)) ⌝ }
+        ensures did { λ r. ⌜ made r (OfficeMade (now (self .entry)) (now (self .exit)) (office-writes (scene-of (now (self .entry)) .office) (note .0) (bytes-of value))) ⌝ }
+    {
+        let Ok(step) = self.cast.office.write(note, value) else {
+            return Err(AllocError);
+        };
+        self.send(PartyId(OFFICE), note, step.sends)?;
+        Ok(step.outcome)
+    }
+
+    /// Time passes for the office: whatever it is writing is sent again.
+    pub fn tick_office(&mut self) -> Result<(), AllocError>
+        ensures stays { λ _. ⌜ Stays (now (self .entry)) (now (self .exit)) ⌝ }
+        ensures scene { λ r. ⌜ made r (λ _. scene-of (now (self .exit)) ≡ by-office (wardens-of (now (self .entry))) (office-ticks (scene-of (now (self .entry)) .office)) (scene-of (now (self .entry)))) ⌝ }
+    {
+        let Ok(letters) = self.cast.office.tick(self.heap) else {
+            return Err(AllocError);
+        };
+        self.post(letters.as_slice())
+    }
+
+    // The office sends its letters, one after the other.
+    fn post(&mut self, letters: &[Letter]) -> Result<(), AllocError>
+        ensures cast { λ _. ⌜ now (self .exit) .cast ≡ now (self .entry) .cast ⌝ }
+        ensures seed { λ _. ⌜ now (self .exit) .seed ≡ now (self .entry) .seed ⌝ }
+        ensures way { λ r. ⌜ made r (λ _. packets-of (now (self .exit) .way) ≡ packets-of (now (self .entry) .way) ++ posted (wardens-of (now (self .entry))) (map letter-of (now (letters .entry)))) ⌝ }
+    {
+        for letter in letters {
+            self.send(PartyId(OFFICE), letter.note, letter.sends)?;
         }
+        Ok(())
     }
 
-    /// The office is to write this value.
-    pub fn write(&mut self, value: Value) -> Result<OfficeOutcome, AllocError>
+    /// A reader begins to read a note.
+    pub fn read(&mut self, reader: ReaderId, note: NoteId) -> Result<ReaderOutcome, AllocError>
         ensures stays { λ _. ⌜ Stays (now (self .entry)) (now (self .exit)) ⌝ }
-        ensures did { λ r. ⌜ made r (OfficeMade (now (self .entry)) (now (self .exit)) (write-on (scene-of (now (self .entry)) .desk) (bytes-of value))) ⌝ }
+        ensures did { λ r. ⌜ made r (ReaderMade (now (self .entry)) (now (self .exit)) (reader .index) (read-on (scene-of (now (self .entry)) .reader (reader .index)) (note .0))) ⌝ }
     {
-        let step = self.cast.desk.write(value);
-        self.send(PartyId(OFFICE), step.sends)?;
-        Ok(step.outcome)
-    }
-
-    /// Time passes for the office.
-    pub fn tick_office(&mut self) -> Result<OfficeOutcome, AllocError>
-        ensures stays { λ _. ⌜ Stays (now (self .entry)) (now (self .exit)) ⌝ }
-        ensures did { λ r. ⌜ made r (OfficeMade (now (self .entry)) (now (self .exit)) (office-tick (scene-of (now (self .entry)) .desk))) ⌝ }
-    {
-        let step = self.cast.desk.tick();
-        self.send(PartyId(OFFICE), step.sends)?;
-        Ok(step.outcome)
-    }
-
-    /// A reader begins to read.
-    pub fn read(&mut self, reader: ReaderId) -> Result<ReaderOutcome, AllocError>
-        ensures stays { λ _. ⌜ Stays (now (self .entry)) (now (self .exit)) ⌝ }
-        ensures did { λ r. ⌜ made r (ReaderMade (now (self .entry)) (now (self .exit)) (reader .index) (read-on (scene-of (now (self .entry)) .reader (reader .index)) 0)) ⌝ }
-    {
-        let mut party = *self.cast.reader(reader);
-        let step = party.read(NOTE);
-        self.cast.set_reader(reader, party);
-        self.send(reader.id(), step.sends)?;
+        let mut party = *self.cast.readers.get(reader);
+        let step = party.read(note);
+        self.cast.readers.set(reader, party);
+        self.send(reader.id(), party.note, step.sends)?;
         Ok(step.outcome)
     }
 
@@ -107,10 +127,10 @@ impl Stage {
         ensures stays { λ _. ⌜ Stays (now (self .entry)) (now (self .exit)) ⌝ }
         ensures did { λ r. ⌜ made r (ReaderMade (now (self .entry)) (now (self .exit)) (reader .index) (ticked (now (self .entry)) (reader .index))) ⌝ }
     {
-        let mut party = *self.cast.reader(reader);
+        let mut party = *self.cast.readers.get(reader);
         let step = party.tick();
-        self.cast.set_reader(reader, party);
-        self.send(reader.id(), step.sends)?;
+        self.cast.readers.set(reader, party);
+        self.send(reader.id(), party.note, step.sends)?;
         Ok(step.outcome)
     }
 
@@ -147,21 +167,22 @@ impl Stage {
         ensures stays { λ _. ⌜ Stays (now (self .entry)) (now (self .exit)) ⌝ }
         ensures did { λ r. ⌜ made r (OfficeMade (now (self .entry)) (now (self .exit)) (at-office (now (self .entry)) packet)) ⌝ }
     {
-        let step = self.cast
-            .desk
-            .on(&self.cast.quorum, packet.from, packet.message);
-        self.send(PartyId(OFFICE), step.sends)?;
+        let step = self.cast.office.on(packet.from, packet.note, packet.message);
+        self.send(PartyId(OFFICE), packet.note, step.sends)?;
         Ok(step.outcome)
     }
 
     fn to_honest(&mut self, warden: WardenId, packet: Packet) -> Result<WardenOutcome, AllocError>
+        requires { ⌜ warden .index < vec-len (now self .cast .wardens) ⌝ }
         ensures stays { λ _. ⌜ Stays (now (self .entry)) (now (self .exit)) ⌝ }
-        ensures did { λ r. ⌜ made r (WardenMade (now (self .entry)) (now (self .exit)) (warden .index) (at-warden (now (self .entry)) (warden .index) packet)) ⌝ }
+        ensures did { λ r. ⌜ made r (WardenMade (now (self .entry)) (now (self .exit)) (warden .index) (packet .note .0) (at-warden (now (self .entry)) (warden .index) packet)) ⌝ }
     {
-        let mut party = *self.cast.warden(warden);
-        let step = party.on(packet.from, packet.message);
-        self.cast.set_warden(warden, party);
-        self.send(PartyId(warden.index as u32), step.sends)?;
+        let heard = self.cast
+            .hear(warden, packet.from, packet.note, packet.message);
+        let Ok(step) = heard else {
+            return Err(AllocError);
+        };
+        self.send(PartyId(warden.index as u32), packet.note, step.sends)?;
         Ok(step.outcome)
     }
 
@@ -169,26 +190,26 @@ impl Stage {
         ensures stays { λ _. ⌜ Stays (now (self .entry)) (now (self .exit)) ⌝ }
         ensures did { λ r. ⌜ made r (ReaderMade (now (self .entry)) (now (self .exit)) (reader .index) (at-reader (now (self .entry)) (reader .index) packet)) ⌝ }
     {
-        let mut party = *self.cast.reader(reader);
-        let step = party.on(packet.from, NOTE, packet.message);
-        self.cast.set_reader(reader, party);
-        self.send(reader.id(), step.sends)?;
+        let mut party = *self.cast.readers.get(reader);
+        let step = party.on(packet.from, packet.note, packet.message);
+        self.cast.readers.set(reader, party);
+        self.send(reader.id(), party.note, step.sends)?;
         Ok(step.outcome)
     }
 
-    // What a party sends goes behind all that is on its way.
-    fn send(&mut self, from: PartyId, sends: Sends) -> Result<(), AllocError>
+    // What a party sends about a note goes behind all that is on its way.
+    fn send(&mut self, from: PartyId, note: NoteId, sends: Sends) -> Result<(), AllocError>
         ensures cast { λ _. ⌜ now (self .exit) .cast ≡ now (self .entry) .cast ⌝ }
         ensures seed { λ _. ⌜ now (self .exit) .seed ≡ now (self .entry) .seed ⌝ }
-        ensures way { λ r. ⌜ made r (λ _. packets-of (now (self .exit) .way) ≡ packets-of (now (self .entry) .way) ++ packets (now (self .entry) .cast .quorum .wardens) (from .0) 0 (sends-of sends)) ⌝ }
+        ensures way { λ r. ⌜ made r (λ _. packets-of (now (self .exit) .way) ≡ packets-of (now (self .entry) .way) ++ packets (wardens-of (now (self .entry))) (from .0) (note .0) (sends-of sends)) ⌝ }
     {
-        self.way.send(self.cast.quorum.wardens, from, sends)
+        self.way.send(self.cast.office.quorum.wardens, from, note, sends)
     }
 
     /// A liar sends what it likes, to somebody who takes part.
     pub fn say(&mut self, saying: Saying) -> Result<(), Failure>
         ensures stays { λ _. ⌜ Stays (now (self .entry)) (now (self .exit)) ⌝ }
-        ensures said { λ r. ⌜ made r (λ _. (members (now (self .entry) .cast .liars) (saying .liar .index) ≡ true) × (scene-of (now (self .exit)) ≡ sending (saying .liar .index) (party-number (saying .to)) (message-of (saying .message)) (scene-of (now (self .entry))))) ⌝ }
+        ensures said { λ r. ⌜ made r (λ _. (members (now (self .entry) .cast .liars) (saying .liar .index) ≡ true) × (scene-of (now (self .exit)) ≡ sending (saying .liar .index) (party-number (saying .to)) (saying .note .0) (message-of (saying .message)) (scene-of (now (self .entry))))) ⌝ }
         ensures unchanged { λ r. ⌜ If-turned-away r (now (self .exit) ≡ now (self .entry)) ⌝ }
     {
         if !self.cast.is_liar(saying.liar) {
@@ -200,7 +221,7 @@ impl Stage {
             return Err(Failure::Script(ScriptError::NoSuchWarden));
         }
         let from = PartyId(saying.liar.index as u32);
-        self.way.put(from, saying.to.id(), saying.message)?;
+        self.way.put(from, saying.to.id(), saying.note, saying.message)?;
         Ok(())
     }
 
@@ -216,7 +237,7 @@ impl Stage {
             Message::Took(_) => PartyId(OFFICE),
             Message::Take(_) | Message::Ask(_) | Message::Told(_, _) => packet.from,
         };
-        self.way.put(packet.to, to, message)
+        self.way.put(packet.to, to, packet.note, message)
     }
 
     fn made_up(&mut self, message: Message) -> Option<Message>

@@ -1,4 +1,5 @@
 // How the things of a rehearsal are written.
+use crate::way::Packet;
 use notes::ids::PartyId;
 use notes::note::Note;
 use notes::value::Value;
@@ -6,7 +7,6 @@ use notes::warden_id::WardenId;
 use notes::warden_set::WardenSet;
 use parties::message::Message;
 use parties::refusal::Refusal;
-use parties::step::WardenOutcome;
 use std::fmt;
 
 /// Something of another crate, to be written.
@@ -46,14 +46,20 @@ pub impl fmt::Display for Text<PartyId> as PartyText {
     }
 }
 
-// As a script has it after `say I TO`.
-pub impl fmt::Display for Text<Message> as MessageText {
+pub impl fmt::Display for Packet as PacketText {
     fn fmt<W: fmt::Write>(&self, f: &mut fmt::Formatter<W>) -> fmt::Result {
-        match self.0 {
-            Message::Take(note) => write!(f, "take {}", Text(note)),
-            Message::Took(edition) => write!(f, "took {}", edition.0),
-            Message::Ask(round) => write!(f, "ask {}", round.0),
-            Message::Told(round, note) => write!(f, "told {} {}", round.0, Text(note)),
+        let number = self.number;
+        let from = Text(self.from);
+        let to = Text(self.to);
+        let k = self.note.0;
+        write!(f, "{number}: {from} -> {to}: ")?;
+        match self.message {
+            Message::Take(note) => write!(f, "take note {k} edition {}", Text(note)),
+            Message::Took(edition) => write!(f, "took note {k} edition {}", edition.0),
+            Message::Ask(round) => write!(f, "ask note {k} round {}", round.0),
+            Message::Told(round, note) => {
+                write!(f, "told note {k} round {} edition {}", round.0, Text(note))
+            }
         }
     }
 }
@@ -61,16 +67,6 @@ pub impl fmt::Display for Text<Message> as MessageText {
 pub impl fmt::Display for Text<Refusal> as RefusalText {
     fn fmt<W: fmt::Write>(&self, f: &mut fmt::Formatter<W>) -> fmt::Result {
         write!(f, "refused {}", self.0.number())
-    }
-}
-
-pub impl fmt::Display for Text<WardenOutcome> as WardenOutcomeText {
-    fn fmt<W: fmt::Write>(&self, f: &mut fmt::Formatter<W>) -> fmt::Result {
-        match self.0 {
-            WardenOutcome::Taken => f.write_str("taken"),
-            WardenOutcome::Answered => f.write_str("answered"),
-            WardenOutcome::Refused(refusal) => write!(f, "{}", Text(refusal)),
-        }
     }
 }
 

@@ -5,21 +5,23 @@ use crate::script_error::ScriptError;
 use crate::script_error::ScriptErrorText;
 use crate::stage::Arrival;
 use crate::stage::Stage;
-use crate::text::MessageText;
 use crate::text::NoteText;
+use crate::text::PacketText;
 use crate::text::PartyText;
 use crate::text::RefusalText;
 use crate::text::Text;
-use crate::text::ValueText;
-use crate::text::WardenOutcomeText;
 use crate::text::WardenSetText;
 use crate::way::Packet;
 use crate::way::Way;
+use notes::ids::NoteId;
+use notes::note::Note;
 use notes::quorum::Quorum;
 use notes::warden_id::WardenId;
 use parties::desk::Desk;
 use parties::step::OfficeOutcome;
 use parties::step::ReaderOutcome;
+use parties::step::WardenOutcome;
+use parties_tables::office::Office;
 use std::alloc::Global;
 use std::fmt;
 use std::fmt::Write as _;
@@ -63,37 +65,34 @@ impl Transcript {
         writeln!(self.text, "  {warden} lies from now on")
     }
 
+    pub fn forgets(&mut self, warden: WardenId) -> fmt::Result {
+        let warden = warden.index;
+        writeln!(self.text, "  {warden} has lost its notes")
+    }
+
     pub fn seeds(&mut self, seed: u64) -> fmt::Result {
         writeln!(self.text, "  liars answer by the seed {seed}")
     }
 
-    /// What the office did when it was told to write, or when time passed.
-    pub fn office(&mut self, desk: &Desk, outcome: OfficeOutcome) -> fmt::Result {
-        let edition = desk.now.edition.0;
+    /// What the office did when it was told to write a note, of which it now has this.
+    pub fn writes(&mut self, note: NoteId, now: Note, outcome: OfficeOutcome) -> fmt::Result {
+        let number = note.0;
         match outcome {
-            OfficeOutcome::Begun if desk.now.value.length == 0 => {
-                writeln!(self.text, "  office begins edition {edition}")
-            }
-            OfficeOutcome::Begun => {
-                let value = Text(desk.now.value);
-                writeln!(self.text, "  office begins edition {edition}: {value}")
-            }
-            OfficeOutcome::Resent => writeln!(self.text, "  office sends edition {edition} again"),
-            OfficeOutcome::NoWriting => writeln!(self.text, "  office: nothing to do"),
-            outcome => {
-                write!(self.text, "  office")?;
-                self.office_came_to(desk, outcome)
-            }
+            OfficeOutcome::Refused(refusal) => writeln!(self.text, "  office: {}", Text(refusal)),
+            _ => writeln!(
+                self.text,
+                "  office begins note {number} edition {}",
+                Text(now)
+            ),
         }
     }
 
-    // The rest of a line: what something came to at the office.
-    fn office_came_to(&mut self, desk: &Desk, outcome: OfficeOutcome) -> fmt::Result {
-        match outcome {
-            OfficeOutcome::Counted => writeln!(self.text, ": counted"),
-            OfficeOutcome::Ended => writeln!(self.text, ": ended {}", desk.now.edition.0),
-            OfficeOutcome::Refused(refusal) => writeln!(self.text, ": {}", Text(refusal)),
-            OfficeOutcome::Begun | OfficeOutcome::Resent | OfficeOutcome::NoWriting => Ok(()),
+    /// What the office did when time passed.
+    pub fn office_ticks(&mut self, office: &Office) -> fmt::Result {
+        if office.under_way.is_empty() {
+            writeln!(self.text, "  office: nothing to do")
+        } else {
+            writeln!(self.text, "  office sends again")
         }
     }
 
@@ -102,61 +101,68 @@ impl Transcript {
         let id = Text(reader.id());
         match outcome {
             ReaderOutcome::Asked | ReaderOutcome::Retried => {
-                let round = cast.reader(reader).round.number.0;
-                writeln!(self.text, "  {id} begins round {round}")
+                let reader = cast.readers.get(reader);
+                let note = reader.note.0;
+                let round = reader.round.number.0;
+                writeln!(self.text, "  {id} begins round {round} of note {note}")
             }
             ReaderOutcome::AskedAgain => writeln!(self.text, "  {id} asks again"),
-            ReaderOutcome::NoReading => writeln!(self.text, "  {id}: nothing to do"),
-            outcome => {
-                write!(self.text, "  {id}")?;
-                self.reader_came_to(outcome)
-            }
-        }
-    }
-
-    // The rest of a line: what something came to at a reader.
-    fn reader_came_to(&mut self, outcome: ReaderOutcome) -> fmt::Result {
-        match outcome {
-            ReaderOutcome::Heard => writeln!(self.text, ": heard"),
-            ReaderOutcome::Undecided => writeln!(self.text, ": undecided"),
-            ReaderOutcome::Read(note) => writeln!(self.text, ": note {}", Text(note)),
-            ReaderOutcome::Unsure => writeln!(self.text, ": unsure"),
-            ReaderOutcome::Refused(refusal) => writeln!(self.text, ": {}", Text(refusal)),
-            ReaderOutcome::Asked
-            | ReaderOutcome::AskedAgain
-            | ReaderOutcome::Retried
-            | ReaderOutcome::NoReading => Ok(()),
+            ReaderOutcome::Refused(refusal) => writeln!(self.text, "  {id}: {}", Text(refusal)),
+            _ => writeln!(self.text, "  {id}: nothing to do"),
         }
     }
 
     /// A message came to whom it was for.
-    pub fn comes(&mut self, desk: &Desk, packet: Packet, arrival: Arrival) -> fmt::Result {
+    pub fn comes(&mut self, cast: &Cast, packet: Packet, arrival: Arrival) -> fmt::Result {
         let number = packet.number;
         let to = Text(packet.to);
         write!(self.text, "  {number}: comes to {to}")?;
         match arrival {
-            Arrival::Office(outcome) => self.office_came_to(desk, outcome),
-            Arrival::Warden(outcome) => writeln!(self.text, ": {}", Text(outcome)),
-            Arrival::Reader(outcome) => self.reader_came_to(outcome),
+            Arrival::Office(outcome) => {
+                self.office_came_to(packet.note, cast.written(packet.note), outcome)
+            }
+            Arrival::Warden(outcome) => self.warden_came_to(outcome),
+            Arrival::Reader(outcome) => self.reader_came_to(packet.note, outcome),
             Arrival::Liar => writeln!(self.text, ", who lies"),
             Arrival::Nobody => writeln!(self.text, ", who is not there"),
+        }
+    }
+
+    // The rest of a line: what a message about a note came to, at the office, at a warden, at a reader.
+    fn office_came_to(&mut self, note: NoteId, now: Note, outcome: OfficeOutcome) -> fmt::Result {
+        let number = note.0;
+        match outcome {
+            OfficeOutcome::Ended => writeln!(self.text, ": ended {number} {}", now.edition.0),
+            OfficeOutcome::Refused(refusal) => writeln!(self.text, ": {}", Text(refusal)),
+            _ => writeln!(self.text, ": counted"),
+        }
+    }
+
+    fn warden_came_to(&mut self, outcome: WardenOutcome) -> fmt::Result {
+        match outcome {
+            WardenOutcome::Taken => writeln!(self.text, ": taken"),
+            WardenOutcome::Answered => writeln!(self.text, ": answered"),
+            WardenOutcome::Refused(refusal) => writeln!(self.text, ": {}", Text(refusal)),
+        }
+    }
+
+    fn reader_came_to(&mut self, note: NoteId, outcome: ReaderOutcome) -> fmt::Result {
+        let number = note.0;
+        match outcome {
+            ReaderOutcome::Undecided => writeln!(self.text, ": undecided"),
+            ReaderOutcome::Read(note) => writeln!(self.text, ": note {number} {}", Text(note)),
+            ReaderOutcome::Unsure => writeln!(self.text, ": unsure {number}"),
+            ReaderOutcome::Refused(refusal) => writeln!(self.text, ": {}", Text(refusal)),
+            _ => writeln!(self.text, ": heard"),
         }
     }
 
     /// The messages that are behind the first so many: those that were sent last.
     pub fn sent(&mut self, way: &Way, before: usize) -> fmt::Result {
         for packet in way.packets.iter().skip(before) {
-            self.packet(*packet)?;
+            writeln!(self.text, "  {packet}")?;
         }
         Ok(())
-    }
-
-    fn packet(&mut self, packet: Packet) -> fmt::Result {
-        let number = packet.number;
-        let from = Text(packet.from);
-        let to = Text(packet.to);
-        let message = Text(packet.message);
-        writeln!(self.text, "  {number}: {from} -> {to}: {message}")
     }
 
     /// What became of a message on its way.
@@ -174,11 +180,9 @@ impl Transcript {
 
     /// What each party has, and how much is on its way.
     pub fn show(&mut self, stage: &Stage) -> fmt::Result {
-        self.show_office(&stage.cast.desk)?;
-        for index in 0..stage.cast.quorum.wardens {
-            if let Some(warden) = WardenId::new(index) {
-                self.show_warden(&stage.cast, warden)?;
-            }
+        self.show_office(&stage.cast.office)?;
+        for index in 0..63 {
+            self.show_warden(&stage.cast, WardenId { index })?;
         }
         for index in 0..4 {
             self.show_reader(&stage.cast, ReaderId { index })?;
@@ -187,34 +191,55 @@ impl Transcript {
         writeln!(self.text, "  on the way: {on_way}")
     }
 
-    fn show_office(&mut self, desk: &Desk) -> fmt::Result {
+    fn show_office(&mut self, office: &Office) -> fmt::Result {
+        if office.desks.count() == 0 {
+            return writeln!(self.text, "  office: no notes");
+        }
+        for (number, desk) in office.desks.numbers.iter().zip(office.desks.items.iter()) {
+            self.show_desk(*number, desk)?;
+        }
+        Ok(())
+    }
+
+    fn show_desk(&mut self, number: u32, desk: &Desk) -> fmt::Result {
         let note = Text(desk.now);
+        let acks = Text(desk.acks);
         let writing = if desk.busy {
             "being written"
         } else {
             "not being written"
         };
-        let acks = Text(desk.acks);
         writeln!(
             self.text,
-            "  office: note {note}, {writing}, taken by{acks}"
+            "  office: note {number} edition {note}, {writing}, taken by{acks}"
         )
     }
 
-    fn show_warden(&mut self, cast: &Cast, warden: WardenId) -> fmt::Result {
-        let number = warden.index;
-        let note = Text(cast.warden(warden).held);
-        let lies = if cast.is_liar(warden) { ", lies" } else { "" };
-        writeln!(self.text, "  {number}: note {note}{lies}")
+    // A warden that does not take part is passed over.
+    fn show_warden(&mut self, cast: &Cast, id: WardenId) -> fmt::Result {
+        let Some(warden) = cast.wardens.get(id.index as usize) else {
+            return Ok(());
+        };
+        let lies = if cast.is_liar(id) { ", who lies" } else { "" };
+        let id = id.index;
+        if warden.notes.count() == 0 {
+            return writeln!(self.text, "  {id}{lies}: no notes");
+        }
+        for (number, note) in warden.notes.numbers.iter().zip(warden.notes.items.iter()) {
+            let note = Text(*note);
+            writeln!(self.text, "  {id}{lies}: note {number} edition {note}")?;
+        }
+        Ok(())
     }
 
     // A reader that never began to read is passed over.
     fn show_reader(&mut self, cast: &Cast, reader: ReaderId) -> fmt::Result {
-        if !cast.has_read(reader) {
+        if !cast.readers.has_read(reader) {
             return Ok(());
         }
         let id = Text(reader.id());
-        let reader = cast.reader(reader);
+        let reader = cast.readers.get(reader);
+        let note = reader.note.0;
         let round = reader.round.number.0;
         if !reader.busy {
             return writeln!(self.text, "  {id}: not reading, round {round} was its last");
@@ -222,7 +247,7 @@ impl Transcript {
         let heard = Text(reader.round.heard);
         writeln!(
             self.text,
-            "  {id}: reading in round {round}, told by{heard}"
+            "  {id}: reading note {note} in round {round}, told by{heard}"
         )
     }
 }

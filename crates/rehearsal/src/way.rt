@@ -9,18 +9,20 @@ ghost use Rattle.protocol.specs.Message.{packets, to-each};
 ghost use Rattle.parties.specs.Views.{message-of, sends-of};
 ghost use Rattle.rehearsal.specs.Ways.{packet-of, packets-of, meant, Absent, First, Picked, others};
 use crate::party::Party;
+use notes::ids::NoteId;
 use notes::ids::PartyId;
 use parties::message::Message;
 use parties::message::Sends;
 use std::alloc::AllocError;
 use std::alloc::Global;
 
-/// A message on its way. Its number is its place among all that were ever sent.
+/// A message on its way, about a note. Its number is its place among all that were ever sent.
 #[derive(Clone, Copy)]
 pub struct Packet {
     pub number: u64,
     pub from: PartyId,
     pub to: PartyId,
+    pub note: NoteId,
     pub message: Message,
 }
 
@@ -61,9 +63,15 @@ impl Way {
     }
 
     /// One message is sent.
-    pub fn put(&mut self, from: PartyId, to: PartyId, message: Message) -> Result<(), AllocError>
-        ensures packets { λ r. ⌜ made r (λ _. packets-of (now (self .exit)) ≡ packets-of (now (self .entry)) ++ record { from = from .0; to = to .0; note = 0; message = message-of message } ∷ []) ⌝ }
-        ensures numbered { λ r. ⌜ made r (λ _. (now (self .exit) .sent ≡ min (now (self .entry) .sent + 1) (2 ^ 64 - 1)) × (vec-items (now (self .exit) .packets) ≡ vec-items (now (self .entry) .packets) ++ record { number = now (self .exit) .sent; from = from; to = to; message = message } ∷ [])) ⌝ }
+    pub fn put(
+        &mut self,
+        from: PartyId,
+        to: PartyId,
+        note: NoteId,
+        message: Message,
+    ) -> Result<(), AllocError>
+        ensures packets { λ r. ⌜ made r (λ _. packets-of (now (self .exit)) ≡ packets-of (now (self .entry)) ++ record { from = from .0; to = to .0; note = note .0; message = message-of message } ∷ []) ⌝ }
+        ensures numbered { λ r. ⌜ made r (λ _. (now (self .exit) .sent ≡ min (now (self .entry) .sent + 1) (2 ^ 64 - 1)) × (vec-items (now (self .exit) .packets) ≡ vec-items (now (self .entry) .packets) ++ record { number = now (self .exit) .sent; from = from; to = to; note = note; message = message } ∷ [])) ⌝ }
     {
         let number = self.sent.saturating_add(1);
         self.packets
@@ -71,28 +79,41 @@ impl Way {
                 number,
                 from,
                 to,
+                note,
                 message,
             })?;
         self.sent = number;
         Ok(())
     }
 
-    /// What a party sends at once, with so many wardens.
-    pub fn send(&mut self, wardens: u8, from: PartyId, sends: Sends) -> Result<(), AllocError>
-        ensures { λ r. ⌜ made r (λ _. packets-of (now (self .exit)) ≡ packets-of (now (self .entry)) ++ packets wardens (from .0) 0 (sends-of sends)) ⌝ }
+    /// What a party sends at once about a note, with so many wardens.
+    pub fn send(
+        &mut self,
+        wardens: u8,
+        from: PartyId,
+        note: NoteId,
+        sends: Sends,
+    ) -> Result<(), AllocError>
+        ensures { λ r. ⌜ made r (λ _. packets-of (now (self .exit)) ≡ packets-of (now (self .entry)) ++ packets wardens (from .0) (note .0) (sends-of sends)) ⌝ }
     {
         match sends {
             Sends::Nothing => Ok(()),
-            Sends::One(to, message) => self.put(from, to, message),
-            Sends::Each(message) => self.put_each(wardens, from, message),
+            Sends::One(to, message) => self.put(from, to, note, message),
+            Sends::Each(message) => self.put_each(wardens, from, note, message),
         }
     }
 
-    fn put_each(&mut self, wardens: u8, from: PartyId, message: Message) -> Result<(), AllocError>
-        ensures { λ r. ⌜ made r (λ _. packets-of (now (self .exit)) ≡ packets-of (now (self .entry)) ++ to-each wardens (λ i. record { from = from .0; to = i; note = 0; message = message-of message })) ⌝ }
+    fn put_each(
+        &mut self,
+        wardens: u8,
+        from: PartyId,
+        note: NoteId,
+        message: Message,
+    ) -> Result<(), AllocError>
+        ensures { λ r. ⌜ made r (λ _. packets-of (now (self .exit)) ≡ packets-of (now (self .entry)) ++ to-each wardens (λ i. record { from = from .0; to = i; note = note .0; message = message-of message })) ⌝ }
     {
         for to in 0..wardens {
-            self.put(from, PartyId(to as u32), message)?;
+            self.put(from, PartyId(to as u32), note, message)?;
         }
         Ok(())
     }
@@ -137,7 +158,7 @@ impl Way {
             return Ok(None);
         };
         let packet = self.packets[place];
-        self.put(packet.from, packet.to, packet.message)?;
+        self.put(packet.from, packet.to, packet.note, packet.message)?;
         Ok(Some(packet))
     }
 

@@ -13,6 +13,7 @@ use crate::party::ReaderId;
 use crate::script_error::ScriptError;
 use crate::way::Which;
 use notes::ids::Edition;
+use notes::ids::NoteId;
 use notes::ids::PartyId;
 use notes::ids::RoundNumber;
 use notes::note::Note;
@@ -122,6 +123,14 @@ impl<'a> Words<'a> {
         }
     }
 
+    /// The number of a note.
+    pub fn note_id(&mut self) -> Result<NoteId, ScriptError> {
+        match u32::try_from(self.number()?) {
+            Ok(number) => Ok(NoteId(number)),
+            Err(_) => Err(ScriptError::NoSuchNote),
+        }
+    }
+
     /// A number, or two parties.
     pub fn which(&mut self) -> Result<Which, ScriptError> {
         let first = self.word()?;
@@ -140,20 +149,23 @@ impl<'a> Words<'a> {
         }
     }
 
+    /// An edition and its value.
     pub fn note(&mut self) -> Result<Note, ScriptError> {
         let edition = Edition(self.number()?);
         let value = self.value()?;
         Ok(Note { edition, value })
     }
 
-    pub fn message(&mut self) -> Result<Message, ScriptError> {
+    /// A message, after the note that it is about.
+    pub fn message(&mut self) -> Result<(NoteId, Message), ScriptError> {
         match self.word()? {
-            "take" => Ok(Message::Take(self.note()?)),
-            "took" => Ok(Message::Took(Edition(self.number()?))),
-            "ask" => Ok(Message::Ask(RoundNumber(self.number()?))),
+            "take" => Ok((self.note_id()?, Message::Take(self.note()?))),
+            "took" => Ok((self.note_id()?, Message::Took(Edition(self.number()?)))),
+            "ask" => Ok((self.note_id()?, Message::Ask(RoundNumber(self.number()?)))),
             "told" => {
+                let note = self.note_id()?;
                 let round = RoundNumber(self.number()?);
-                Ok(Message::Told(round, self.note()?))
+                Ok((note, Message::Told(round, self.note()?)))
             }
             _ => Err(ScriptError::MessageExpected),
         }

@@ -19,22 +19,24 @@ const LONGEST_LINE: usize = 4096;
 const VERSION: &str = "rehearse 0.1.0\nrattle-kit-8b logic 7f726aa041520687\n";
 
 const USAGE: &str = "usage: rehearse < SCRIPT
-Plays a script of one note, its wardens and its readers, and prints what happens.
+Plays a script of notes, their wardens and their readers, and prints what happens.
 One command a line:
-  wardens N F            begin anew with N wardens, 5 to 9, of whom F may lie, 4F < N
-  liar I                 warden I lies from now on
-  seed S                 liars answer by the seed S from now on
-  write [HEX]            the office writes this value
-  tick [office | J]      time passes for all, for the office, for the reader J
-  read J                 the reader J, 65 to 68, begins to read
-  deliver all            all messages come, also those sent meanwhile
-  deliver M | FROM TO    a message comes: by its number, or the first between two
-  lose M | FROM TO       it never comes
-  double M | FROM TO     one more like it is sent
-  late M | FROM TO       it goes behind all others
-  say I TO take E [HEX]  the liar I says this to TO; or took E, ask R, told R E [HEX]
-  show                   what each party has
-  # REMARK               is printed as it stands
+  wardens N F              begin anew with N wardens, 5 to 9, of whom F may lie, 4F < N
+  liar I                   warden I lies from now on
+  forget I                 warden I loses all that it had
+  seed S                   liars answer by the seed S from now on
+  write K [HEX]            the office writes this value of the note K
+  tick [office | J]        time passes for all, for the office, for the reader J
+  read J K                 the reader J, 65 to 68, begins to read the note K
+  deliver all              all messages come, also those sent meanwhile
+  deliver M | FROM TO      a message comes: by its number, or the first between two
+  lose M | FROM TO         it never comes
+  double M | FROM TO       one more like it is sent
+  late M | FROM TO         it goes behind all others
+  say I TO take K E [HEX]  the liar I says this to TO of the note K;
+                           or took K E, ask K R, told K R E [HEX]
+  show                     what each party has
+  # REMARK                 is printed as it stands
 Parties are office, a warden's number, a reader's number.
 ";
 

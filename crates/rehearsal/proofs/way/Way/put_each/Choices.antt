@@ -6,4 +6,4 @@ use Rattle.rehearsal.specs.Ways.{packets-of}
 use Rattle.rehearsal.proofs.way.Way.put_each.Given as given
 
 abbrev pub Inv-loop-to : given.InvT-loop-to
-Inv-loop-to l = packets-of (l .self) ≡ packets-of (l .entry .self) ++ to-each (l .to) (λ i. record { from = l .from .0; to = i; note = 0; message = message-of (l .message) })
+Inv-loop-to l = packets-of (l .self) ≡ packets-of (l .entry .self) ++ to-each (l .to) (λ i. record { from = l .from .0; to = i; note = l .note .0; message = message-of (l .message) })
