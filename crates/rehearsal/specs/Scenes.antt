@@ -7,7 +7,7 @@ use mathlib.Core.List.{List, [], _∷_, _++_}
 use Prim.Native.Nat.{ℕ, _+_, _<_, _≤_}
 use Rattle.register.specs.Count.{put}
 use Rattle.std.specs.Of.Vec.{vec-items, vec-len}
-use Rattle.register.specs.Note.{Note, none}
+use Rattle.register.specs.Note.{Note}
 use Rattle.std.specs.declared.result.Result.{Result}
 use Rattle.std.specs.declared.result.Result.the-variants.{Ok, Err}
 use Rattle.notes.specs.Views.{members}
@@ -16,7 +16,7 @@ use Rattle.protocol.specs.Message.{office, packets}
 use Rattle.protocol.specs.Step.{Step, Outcome}
 use Rattle.protocol.specs.Warden.{WardenDone}
 use Rattle.protocol.specs.Reader.{Reader as AnyReader, ReaderDone, reader-tick, reader-on}
-use Rattle.protocol_tables.specs.Keep.{Keep, empty}
+use Rattle.protocol_tables.specs.Keep.{Keep}
 use Rattle.protocol_tables.specs.Warden.{warden-keeps}
 use Rattle.protocol_tables.specs.Office as offices
 use Rattle.protocol_tables.specs.Office.{Letter, OfficeStep, office-hears}
@@ -123,10 +123,6 @@ sending from to k m s =
 -- a liar to whom p came has said nothing, or has sent one message as from itself about the same note
 abbrev pub Lied : (s t : Scene) → Packet → Type 0
 Lied s t p = (t ≡ s) ⊎ ((to : ℕ) × (m : rules.Message) × (t ≡ sending (p .to .0) to (p .note .0) m s))
-
--- the warden i has lost all that it had
-abbrev pub forgetting : (i : ℕ) → Scene → Scene
-forgetting i s = record { office = s .office; warden = put i (empty none) (s .warden); reader = s .reader; on-way = s .on-way }
 
 -- what a command that was turned away left as it was
 abbrev pub If-turned-away : Result Unit Failure → Type 0 → Type 0

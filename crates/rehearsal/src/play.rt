@@ -52,12 +52,7 @@ pub fn play(stage: &mut Stage, out: &mut Transcript, command: Command) -> Result
     }
 }
 
-fn write(
-    stage: &mut Stage,
-    out: &mut Transcript,
-    note: NoteId,
-    value: Value,
-) -> Result<(), Failure>
+fn write(stage: &mut Stage, out: &mut Transcript, note: NoteId, value: Value) -> Result<(), Failure>
     ensures { λ r. ⌜ If-turned-away r ⊥ ⌝ }
 {
     let before = stage.way.packets.len();

@@ -2,8 +2,8 @@
 ghost use mathlib.Core.Path.{_≡_};
 ghost use mathlib.Core.Bool.{true};
 ghost use mathlib.Core.List.{[], _++_, map};
-ghost use Prim.Native.Nat.{_<_, _≤_};
-ghost use Rattle.std.specs.Of.Vec.{vec-items, vec-len};
+ghost use Prim.Native.Nat.{_<_};
+ghost use Rattle.std.specs.Of.Vec.{vec-len};
 ghost use Rattle.std.specs.Vec.{made};
 ghost use Rattle.register.specs.Note.{none};
 ghost use Rattle.notes.specs.Views.{bytes-of, members};
@@ -167,7 +167,9 @@ impl Stage {
         ensures stays { λ _. ⌜ Stays (now (self .entry)) (now (self .exit)) ⌝ }
         ensures did { λ r. ⌜ made r (OfficeMade (now (self .entry)) (now (self .exit)) (at-office (now (self .entry)) packet)) ⌝ }
     {
-        let step = self.cast.office.on(packet.from, packet.note, packet.message);
+        let step = self.cast
+            .office
+            .on(packet.from, packet.note, packet.message);
         self.send(PartyId(OFFICE), packet.note, step.sends)?;
         Ok(step.outcome)
     }
@@ -203,7 +205,8 @@ impl Stage {
         ensures seed { λ _. ⌜ now (self .exit) .seed ≡ now (self .entry) .seed ⌝ }
         ensures way { λ r. ⌜ made r (λ _. packets-of (now (self .exit) .way) ≡ packets-of (now (self .entry) .way) ++ packets (wardens-of (now (self .entry))) (from .0) (note .0) (sends-of sends)) ⌝ }
     {
-        self.way.send(self.cast.office.quorum.wardens, from, note, sends)
+        self.way
+            .send(self.cast.office.quorum.wardens, from, note, sends)
     }
 
     /// A liar sends what it likes, to somebody who takes part.
@@ -221,7 +224,8 @@ impl Stage {
             return Err(Failure::Script(ScriptError::NoSuchWarden));
         }
         let from = PartyId(saying.liar.index as u32);
-        self.way.put(from, saying.to.id(), saying.note, saying.message)?;
+        self.way
+            .put(from, saying.to.id(), saying.note, saying.message)?;
         Ok(())
     }
 

@@ -1,4 +1,4 @@
-use mathlib.Core.Path.{_≡_, _∙_, ap}
+use mathlib.Core.Path.{_∙_, ap}
 use mathlib.Core.List.{map}
 use Rattle.parties_tables.specs.Offices.{letter-of}
 use Rattle.rehearsal.proofs.Outcomes.{if-made}
