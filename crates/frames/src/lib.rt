@@ -1,4 +1,6 @@
 // Frames: messages and records as bytes; and files of records.
+#![tactic(auto)]
+
 pub mod decode;
 pub mod encode;
 pub mod frame;

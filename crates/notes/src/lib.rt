@@ -1,4 +1,6 @@
 // Notes, the numbers that go with them, and what a reader has heard of them in one round.
+#![tactic(auto)]
+
 pub mod ids;
 pub mod kept;
 pub mod note;

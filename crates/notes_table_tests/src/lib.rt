@@ -1,3 +1,5 @@
 // Tables at their edges.
+#![tactic(auto)]
+
 #[cfg(test)]
 mod tests;

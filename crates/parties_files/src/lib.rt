@@ -1,4 +1,6 @@
 // The warden and the office with their files.
+#![tactic(auto)]
+
 pub mod office;
 pub mod outbox;
 pub mod warden;

@@ -1,3 +1,5 @@
 // The parties at their edges.
+#![tactic(auto)]
+
 #[cfg(test)]
 mod tests;

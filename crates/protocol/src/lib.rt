@@ -1,4 +1,6 @@
 // The rules that the office, the wardens and the readers follow, as definitions, and what is promised of all of them together.
+#![tactic(auto)]
+
 ghost use Rattle.protocol.specs.System.{Holds};
 ghost use Rattle.protocol.specs.Laws.{GoodLogs};
 ghost use Rattle.protocol.specs.Progress.{WritingEnds, RoundEnds, ReadingEnds, ReadingAnswers, Measured};

@@ -1,4 +1,6 @@
 // The rules for parties with files, which fall anywhere and come up again, as definitions, the promise for all of them together, and progress.
+#![tactic(auto)]
+
 ghost use Rattle.protocol_files.specs.System.{Refines, Holds};
 ghost use Rattle.protocol_files.specs.Durable.{Durable};
 ghost use Rattle.protocol_files.specs.Cases.{Worked};

@@ -1,4 +1,6 @@
 // The rules for parties with many notes in bounded tables, as definitions, and the promise for all of them together.
+#![tactic(auto)]
+
 ghost use Rattle.protocol_tables.specs.System.{Refines, Holds};
 ghost use Rattle.protocol_tables.specs.Progress.{NeverFull, WritingEnds, RoundEnds, ReadingEnds, ReadingAnswers};
 ghost use Rattle.protocol_tables.specs.Readers.{Readers};

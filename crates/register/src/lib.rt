@@ -1,4 +1,6 @@
 // One note that is kept by many wardens, some of whom may lie, is read as it was written: the model, and its theorems.
+#![tactic(auto)]
+
 ghost use Rattle.register.specs.Promise.{Overlap, Stand, Read, Picked};
 ghost use Rattle.register.specs.Progress.{Moving, Finishes};
 

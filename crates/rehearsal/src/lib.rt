@@ -1,4 +1,6 @@
 // A rehearsal: a script says what happens, the steps of `parties` and `parties_tables` say what comes of it, and a transcript tells it.
+#![tactic(auto)]
+
 pub mod cast;
 pub mod command;
 pub mod failure;

@@ -1,4 +1,6 @@
 // Plays a script from the standard input, and prints its transcript.
+#![tactic(auto)]
+
 ghost use Rattle.std.specs.Prelude.{◌≡◌, ℕ, ◌<◌, ◌≤◌, length, vec_len, ◌≢◌, nat_lt, slice_index};
 
 use rehearsal::rehearsal::Rehearsal;

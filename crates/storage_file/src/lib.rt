@@ -1,2 +1,4 @@
 // A storage over a file of the system.
+#![tactic(auto)]
+
 pub mod file_storage;

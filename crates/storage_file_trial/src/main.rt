@@ -1,4 +1,6 @@
 // Performs fixed lists of calls on a storage over a file in the working folder, which is to be empty.
+#![tactic(auto)]
+
 mod trial;
 
 use std::{env, io};
