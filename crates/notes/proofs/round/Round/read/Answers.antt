@@ -5,6 +5,6 @@ use Rattle.notes.proofs.round.Round.read.Goals as goal
 pub returns : goal.returns
 returns c =
     record {
-      computed = c.first-read.ensures;
-      rule = rule_of c.args.quorum.now.wardens c.args.quorum.now.faults (replies_of c.args.self.now) c.first-read.result c.first-read.ensures;
+      computed = c.first_read.ensures;
+      rule = rule_of c.args.quorum.now.wardens c.args.quorum.now.faults (replies_of c.args.self.now) c.first_read.result c.first_read.ensures;
     }
