@@ -6,17 +6,17 @@ use Rattle.frames.proofs.decode.number.Goals as goal
 pub loop-b-init : goal.loop-b-init
 loop-b-init c = (sym (be_none 0), omega arith)
 
-pub overflow-mul-n : goal.overflow-mul-n
-overflow-mul-n c = omega (arith, pow_room c.loop-b.b-index c.loop-b.n 0 (omega arith) c.loop-b.invariant.1 (omega arith))
+pub overflow_mul-n : goal.overflow_mul-n
+overflow_mul-n c = omega (arith, pow_room c.loop-b.b-index c.loop-b.n 0 (omega arith) c.loop-b.invariant.1 (omega arith))
 
-pub overflow-add-n : goal.overflow-add-n
-overflow-add-n c =
-    let small : c.from.result < 256 = omega (arith, c.type-inv.bytes c.loop-b.b-index) in
+pub overflow_add-n : goal.overflow_add-n
+overflow_add-n c =
+    let small : c.from.result < 256 = omega (arith, c.type_inv.bytes c.loop-b.b-index) in
     omega (arith, pow_room c.loop-b.b-index c.loop-b.n c.from.result (omega arith) c.loop-b.invariant.1 small)
 
 pub loop-b-preserved : goal.loop-b-preserved
 loop-b-preserved c =
-    let small : c.from.result < 256 = omega (arith, c.type-inv.bytes c.loop-b.b-index) in
+    let small : c.from.result < 256 = omega (arith, c.type_inv.bytes c.loop-b.b-index) in
     let t = take_more c.args.bytes.now c.loop-b.b-index 0 c.loop-b-test.true in
     let e = be_more c.loop-b.b-index c.loop-b.n c.from.result small in
     let i = c.loop-b.invariant.0 in

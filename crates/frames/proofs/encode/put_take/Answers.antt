@@ -4,4 +4,4 @@ use Rattle.frames.proofs.encode.put_take.Goals as goal
 
 pub returns : goal.returns
 unfolding encode
-returns c = record { items = c.put-valued.ensures.items; fits = (search rules, c.put-valued.ensures.fits) }
+returns c = record { items = c.put_valued.ensures.items; fits = (search rules, c.put_valued.ensures.fits) }

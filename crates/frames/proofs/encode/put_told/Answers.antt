@@ -4,26 +4,26 @@ use Rattle.frames.proofs.Bytes.{be_8}
 use Rattle.frames.proofs.Room.{then, same, since, length_head, head_rest, value_short}
 use Rattle.frames.proofs.encode.put_told.Goals as goal
 
-pub returns-in-err-reserve : goal.returns-in-err-reserve
-returns-in-err-reserve c = record {
+pub returns-in_err-reserve : goal.returns-in_err-reserve
+returns-in_err-reserve c = record {
   items = search rules;
   fits = (search rules, search rules, (search rules, value_short c.args.what.now.value));
 }
 
 pub put-requires : goal.put-requires
 put-requires c =
-    omega (arith, ap length c.to-be-bytes.ensures, c.put-head.ensures.len, c.put-head.ensures.room, c.in-ok-reserve.ensures.ok, length_head 4 c.args.note.0 c.args.round.0)
+    omega (arith, ap length c.to_be_bytes.ensures, c.put_head.ensures.len, c.put_head.ensures.room, c.in_ok-reserve.ensures.ok, length_head 4 c.args.note.0 c.args.round.0)
 
-pub put-value-requires : goal.put-value-requires
-put-value-requires c = record {
+pub put_value-requires : goal.put_value-requires
+put_value-requires c = record {
   short = subst (λ l. length l ≤ 64) (sym c.bytes-value.ensures) (value_short c.args.what.now.value);
-  room = omega (arith, ap length c.to-be-bytes.ensures, c.put.ensures.len, c.put.ensures.room, c.put-head.ensures.len, c.put-head.ensures.room, c.in-ok-reserve.ensures.ok, length_head 4 c.args.note.0 c.args.round.0);
+  room = omega (arith, ap length c.to_be_bytes.ensures, c.put.ensures.len, c.put.ensures.room, c.put_head.ensures.len, c.put_head.ensures.room, c.in_ok-reserve.ensures.ok, length_head 4 c.args.note.0 c.args.round.0);
 }
 
 pub returns : goal.returns
 unfolding encode
 returns c = record {
   items = since c.reserve.ensures.items (head_rest _ _ _ _)
-      (then c.put-head.ensures (then (same (c.to-be-bytes.ensures ∙ sym (be_8 c.args.what.now.edition.0)) c.put.ensures) (same (ap valued c.bytes-value.ensures) c.put-value.ensures)));
+      (then c.put_head.ensures (then (same (c.to_be_bytes.ensures ∙ sym (be_8 c.args.what.now.edition.0)) c.put.ensures) (same (ap valued c.bytes-value.ensures) c.put_value.ensures)));
   fits = (search rules, search rules, (search rules, value_short c.args.what.now.value));
 }

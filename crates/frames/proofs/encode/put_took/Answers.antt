@@ -4,4 +4,4 @@ use Rattle.frames.proofs.encode.put_took.Goals as goal
 
 pub returns : goal.returns
 unfolding encode
-returns c = record { items = c.put-bare.ensures; fits = search rules }
+returns c = record { items = c.put_bare.ensures; fits = search rules }

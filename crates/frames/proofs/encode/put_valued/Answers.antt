@@ -4,18 +4,18 @@ use Rattle.frames.specs.Views.{number_of}
 use Rattle.frames.proofs.Room.{then, same, since, length_head, head_rest, value_short}
 use Rattle.frames.proofs.encode.put_valued.Goals as goal
 
-pub returns-in-err-reserve : goal.returns-in-err-reserve
-returns-in-err-reserve c = record { items = search rules; fits = (search rules, value_short c.args.value.now) }
+pub returns-in_err-reserve : goal.returns-in_err-reserve
+returns-in_err-reserve c = record { items = search rules; fits = (search rules, value_short c.args.value.now) }
 
-pub put-value-requires : goal.put-value-requires
-put-value-requires c = record {
+pub put_value-requires : goal.put_value-requires
+put_value-requires c = record {
   short = subst (λ l. length l ≤ 64) (sym c.bytes-bytes.ensures) (value_short c.args.value.now);
-  room = omega (arith, c.put-head.ensures.len, c.put-head.ensures.room, c.in-ok-reserve.ensures.ok, length_head (number_of c.args.kind) c.args.note.0 c.args.edition.0);
+  room = omega (arith, c.put_head.ensures.len, c.put_head.ensures.room, c.in_ok-reserve.ensures.ok, length_head (number_of c.args.kind) c.args.note.0 c.args.edition.0);
 }
 
 pub returns : goal.returns
 returns c = record {
   items = since c.reserve.ensures.items (head_rest _ _ _ _)
-      (then c.put-head.ensures (same (ap valued c.bytes-bytes.ensures) c.put-value.ensures));
+      (then c.put_head.ensures (same (ap valued c.bytes-bytes.ensures) c.put_value.ensures));
   fits = (search rules, value_short c.args.value.now);
 }

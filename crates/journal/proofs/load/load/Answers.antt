@@ -9,14 +9,14 @@ loop-party-init g c = (begin g.P.Replay.replays c.args.role (g.S.Storage.holds c
 
 pub returns-then-size-eq0 : goal.returns-then-size-eq0
 returns-then-size-eq0 g c =
-    let read = c.in-ok-read.ensures in
+    let read = c.in_ok-read.ensures in
     let (loading, stays, state, sent) = c.loop-party.invariant in
     let window = vec_items c.read.new.into in
-    let scanned : ScannedAll g.P.Replay.replays c.args.role window 0 c.loop-party.party c.replay-front.new.party =
-    subst (λ (w : List ℕ). ScannedAll g.P.Replay.replays c.args.role w 0 c.loop-party.party c.replay-front.new.party) c.as-slice.ensures.value
-    (subst (λ (n : ℕ). ScannedAll g.P.Replay.replays c.args.role c.as-slice.result.now n c.loop-party.party c.replay-front.new.party) c.if-size-eq0.true c.in-ok-size.ensures) in
+    let scanned : ScannedAll g.P.Replay.replays c.args.role window 0 c.loop-party.party c.replay_front.new.party =
+    subst (λ (w : List ℕ). ScannedAll g.P.Replay.replays c.args.role w 0 c.loop-party.party c.replay_front.new.party) c.as_slice.ensures.value
+    (subst (λ (n : ℕ). ScannedAll g.P.Replay.replays c.args.role c.as_slice.result.now n c.loop-party.party c.replay_front.new.party) c.if-size-eq0.true c.in_ok-size.ensures) in
     record {
-      loads = ended g.P.Replay.replays c.args.role (g.S.Storage.holds c.args.store.now) c.loop-party.place c.args.party.now c.loop-party.party c.replay-front.new.party window loading (λ d h. read.bytes d (stays d h)) scanned;
+      loads = ended g.P.Replay.replays c.args.role (g.S.Storage.holds c.args.store.now) c.loop-party.place c.args.party.now c.loop-party.party c.replay_front.new.party window loading (λ d h. read.bytes d (stays d h)) scanned;
       disk = λ d h. read.disk d (stays d h);
       state = read.state ∙ state;
       sent = read.sent ∙ sent;
@@ -24,13 +24,13 @@ returns-then-size-eq0 g c =
 
 pub loop-party-preserved : goal.loop-party-preserved
 loop-party-preserved g c =
-    let read = c.in-ok-read.ensures in
+    let read = c.in_ok-read.ensures in
     let (loading, stays, state, sent) = c.loop-party.invariant in
     let window = vec_items c.read.new.into in
-    let scanned : ScannedAll g.P.Replay.replays c.args.role window c.in-ok-size.size c.loop-party.party c.replay-front.new.party =
-    subst (λ (w : List ℕ). ScannedAll g.P.Replay.replays c.args.role w c.in-ok-size.size c.loop-party.party c.replay-front.new.party) c.as-slice.ensures.value c.in-ok-size.ensures in (
-      subst (λ (n : ℕ). Loading g.P.Replay.replays c.args.role (g.S.Storage.holds c.args.store.now) n c.args.party.now c.replay-front.new.party) (sym c.in-Some.ensures.1)
-          (onward g.P.Replay.replays c.args.role (g.S.Storage.holds c.args.store.now) c.loop-party.place c.in-ok-size.size c.args.party.now c.loop-party.party c.replay-front.new.party window loading (λ d h. read.bytes d (stays d h)) scanned.scanned),
+    let scanned : ScannedAll g.P.Replay.replays c.args.role window c.in_ok-size.size c.loop-party.party c.replay_front.new.party =
+    subst (λ (w : List ℕ). ScannedAll g.P.Replay.replays c.args.role w c.in_ok-size.size c.loop-party.party c.replay_front.new.party) c.as_slice.ensures.value c.in_ok-size.ensures in (
+      subst (λ (n : ℕ). Loading g.P.Replay.replays c.args.role (g.S.Storage.holds c.args.store.now) n c.args.party.now c.replay_front.new.party) (sym c.in-Some.ensures.1)
+          (onward g.P.Replay.replays c.args.role (g.S.Storage.holds c.args.store.now) c.loop-party.place c.in_ok-size.size c.args.party.now c.loop-party.party c.replay_front.new.party window loading (λ d h. read.bytes d (stays d h)) scanned.scanned),
       λ d h. read.disk d (stays d h),
       read.state ∙ state,
       read.sent ∙ sent,

@@ -15,10 +15,10 @@ loop-front-preserved g c =
     let begins = c.in-Some.ensures in (
       omega arith,
       onward g.P.Replay.replays c.args.role bs c.loop-front.n c.args.party.now c.loop-front.party c.replay.new.self c.loop-front.invariant.1
-          (frame_of x.frame) x.rest.now begins.is_record (sym (take_rest bs c.loop-front.n) ∙ begins.front) c.in-ok-replay.ensures,
+          (frame_of x.frame) x.rest.now begins.is_record (sym (take_rest bs c.loop-front.n) ∙ begins.front) c.in_ok-replay.ensures,
     )
 
 pub returns : goal.returns
 returns g c =
     let bs = c.args.bytes.now in
-    record { scanned = c.loop-front.invariant.1; ends = subst (λ (xs : List ℕ). NoRecord c.args.role xs) (take_rest bs c.loop-front.n) c.in-default.ensures }
+    record { scanned = c.loop-front.invariant.1; ends = subst (λ (xs : List ℕ). NoRecord c.args.role xs) (take_rest bs c.loop-front.n) c.in_default.ensures }

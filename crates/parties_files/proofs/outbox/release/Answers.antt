@@ -8,7 +8,7 @@ use Rattle.parties_files.proofs.outbox.release.Goals as goal
 pub loop-i-preserved : goal.loop-i-preserved
 loop-i-preserved g c =
     let (stays, state, sent) = c.loop-i.invariant in
-    let done = c.in-ok-send.ensures in
+    let done = c.in_ok-send.ensures in
     let x = c.index-outbox-i.result in
     let before = g.S.Storage.sent c.args.store.now in
     let front = map parcel_of (take c.loop-i.i c.args.outbox.now) in

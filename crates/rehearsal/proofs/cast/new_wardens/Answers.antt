@@ -7,7 +7,7 @@ use Rattle.rehearsal.proofs.cast.new_wardens.Goals as goal
 
 pub loop-made-preserved : goal.loop-made-preserved
 loop-made-preserved c =
-    ap (map notes_of) c.in-ok-push.ensures.items ∙ more_same notes_of (vec_items c.loop-made.wardens) c.new.result (empty none) c.loop-made.made c.loop-made.invariant c.new.ensures
+    ap (map notes_of) c.in_ok-push.ensures.items ∙ more_same notes_of (vec_items c.loop-made.wardens) c.new.result (empty none) c.loop-made.made c.loop-made.invariant c.new.ensures
 
 pub returns : goal.returns
 returns c =

@@ -6,8 +6,8 @@ use Rattle.rehearsal.proofs.words.value_of.Goals as goal
 pub loop-place-preserved : goal.loop-place-preserved
 loop-place-preserved c =
     let inv = c.loop-place.invariant in
-    let high = c.in-ok-high.ensures in
-    let low = c.in-ok-low.ensures in (
+    let high = c.in_ok-high.ensures in
+    let low = c.in_ok-low.ensures in (
       inv.0,
       length-set _ _ _ ∙ inv.1,
       bytes_more c.args.digits.now _ _ _ _ high.0 low.0 (omega arith) inv.2,

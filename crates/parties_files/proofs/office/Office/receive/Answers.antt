@@ -14,8 +14,8 @@ use Rattle.parties_files.specs.Offices.{desks_of, stopped}
 use Rattle.parties_files.proofs.OfficeSteps.{hears_begin_nothing, not_ended, none_recorded, ended_recorded, untouched, one_record, recorded_node}
 use Rattle.parties_files.proofs.office.Office.receive.Goals as goal
 
-pub returns-in-default : goal.returns-in-default
-returns-in-default g c =
+pub returns-in_default : goal.returns-in_default
+returns-in_default g c =
     let w = c.args.self.now in
     let n = w.desks.quorum.wardens in
     let f = w.desks.quorum.faults in
@@ -23,7 +23,7 @@ returns-in-default g c =
     let step = office_hears n f (desks_of w) c.args.from.0 k (message_of c.args.message) in
     let did = c.on-step.ensures.did in
     let synced = synced_of c.condition.result (g.S.Storage.state c.args.store.now) c.if-not-condition.false c.condition.ensures in
-    let none = none_recorded k step (hears_begin_nothing n f (desks_of w) c.args.from.0 k (message_of c.args.message)) (ap ends (sym did.outcome_is) ∙ not_ended c.on-step.result.outcome c.in-default.not-Ended) in
+    let none = none_recorded k step (hears_begin_nothing n f (desks_of w) c.args.from.0 k (message_of c.args.message)) (ap ends (sym did.outcome_is) ∙ not_ended c.on-step.result.outcome c.in_default.not-Ended) in
     record {
       did = (
         did.outcome_is,
@@ -36,15 +36,15 @@ returns-in-default g c =
       sent = refl;
     }
 
-pub returns-in-default-record-ended : goal.returns-in-default-record-ended
-returns-in-default-record-ended g c =
+pub returns-in_default-record_ended : goal.returns-in_default-record_ended
+returns-in_default-record_ended g c =
     let w = c.args.self.now in
     let n = w.desks.quorum.wardens in
     let f = w.desks.quorum.faults in
     let k = c.args.number.0 in
     let step = office_hears n f (desks_of w) c.args.from.0 k (message_of c.args.message) in
     let did = c.on-step.ensures.did in
-    let fails = c.in-default-record-ended.ensures in
+    let fails = c.in_default-record_ended.ensures in
     let records = ended_recorded k step (hears_begin_nothing n f (desks_of w) c.args.from.0 k (message_of c.args.message)) (ap ends (sym did.outcome_is) ∙ ap (λ (o : OfficeOutcome). ends (office_outcome o)) c.in-Ended.is) in
     record {
       did = stopped (record {
@@ -52,7 +52,7 @@ returns-in-default-record-ended g c =
         down = refl;
         disk = λ d h.
             let (j, q) = fails.disk d h in
-            (j, subst (λ (bs : List ℕ). g.S.Storage.holds c.record-ended.new.store (append (take j bs) d)) (ap (λ (o : rules.Office). encode (Ended k (o.desks.at k).now.edition)) did.next_is ∙ one_record (Ended k (step.next.desks.at k).now.edition) ∙ ap encode_all (sym records)) q);
+            (j, subst (λ (bs : List ℕ). g.S.Storage.holds c.record_ended.new.store (append (take j bs) d)) (ap (λ (o : rules.Office). encode (Ended k (o.desks.at k).now.edition)) did.next_is ∙ one_record (Ended k (step.next.desks.at k).now.edition) ∙ ap encode_all (sym records)) q);
       });
       sent = fails.sent;
     }

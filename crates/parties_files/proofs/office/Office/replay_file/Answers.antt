@@ -6,7 +6,7 @@ use Rattle.parties_files.proofs.office.Office.replay_file.Goals as goal
 
 pub returns : goal.returns
 returns g c =
-    let done = c.in-ok-opening.ensures in
+    let done = c.in_ok-opening.ensures in
     let o = done.started in
     let (desks, quorum) = replayed_all o.replayed in
     record {

@@ -12,6 +12,6 @@ returns-in-One c =
       kept = refl;
       up = refl;
       outbox = λ n i _.
-          ap (map (packet_of i)) c.push-reserved.ensures.items ∙ map_push (packet_of i) (vec_items c.args.self.now.outbox) _
+          ap (map (packet_of i)) c.push_reserved.ensures.items ∙ map_push (packet_of i) (vec_items c.args.self.now.outbox) _
           ∙ ap (λ (s : Sends). map (packet_of i) (vec_items c.args.self.now.outbox) ++ packets n i c.args.number.0 (sends_of s)) (sym c.in-One.is);
     }

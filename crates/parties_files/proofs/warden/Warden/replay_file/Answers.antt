@@ -7,7 +7,7 @@ use Rattle.parties_files.proofs.warden.Warden.replay_file.Goals as goal
 
 pub returns : goal.returns
 returns g c =
-    let done = c.in-ok-opening.ensures in
+    let done = c.in_ok-opening.ensures in
     let o = done.started in
     let (notes, outbox) = replayed_all o.replayed in
     record {

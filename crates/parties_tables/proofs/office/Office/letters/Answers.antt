@@ -9,8 +9,8 @@ use Rattle.parties_tables.proofs.office.Office.letters.Goals as goal
 
 pub loop-number-preserved : goal.loop-number-preserved
 loop-number-preserved c =
-    ap (map letter_of) c.in-Ok.ensures.items ∙ more_made letter_of (λ (k : NoteId). again (office_of c.args.self.now).desks k.0) (vec_items c.loop-number.letters) c.again.result c.as-slice-numbers.result.now c.loop-number.number-index _ (omega arith) c.again.ensures c.loop-number.invariant
+    ap (map letter_of) c.in-Ok.ensures.items ∙ more_made letter_of (λ (k : NoteId). again (office_of c.args.self.now).desks k.0) (vec_items c.loop-number.letters) c.again.result c.as_slice-numbers.result.now c.loop-number.number-index _ (omega arith) c.again.ensures c.loop-number.invariant
 
 pub returns : goal.returns
 returns c =
-    c.loop-number.invariant ∙ (ap (map (λ (k : NoteId). again (office_of c.args.self.now).desks k.0)) (take_all c.loop-number.number-index c.as-slice-numbers.result.now (omega arith) ∙ c.as-slice-numbers.ensures.value) ∙ sym (map-map (again (office_of c.args.self.now).desks) number_of (vec_items c.args.self.now.under_way)))
+    c.loop-number.invariant ∙ (ap (map (λ (k : NoteId). again (office_of c.args.self.now).desks k.0)) (take_all c.loop-number.number-index c.as_slice-numbers.result.now (omega arith) ∙ c.as_slice-numbers.ensures.value) ∙ sym (map-map (again (office_of c.args.self.now).desks) number_of (vec_items c.args.self.now.under_way)))

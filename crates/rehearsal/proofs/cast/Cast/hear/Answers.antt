@@ -8,10 +8,10 @@ use Rattle.rehearsal.proofs.cast.Cast.hear.Goals as goal
 pub returns : goal.returns
 returns c =
     let ws = c.args.self.now.wardens in
-    let v = c.index-mut.result.now in
+    let v = c.index_mut.result.now in
     let w = c.on.new.self in
     record {
-      did = if_ok (λ _. notes_of w ≡ notes_of v) c.on.result (λ step did. heard_by (vec_items ws) c.args.warden.index c.args.from.0 c.args.note.0 (message_of c.args.message) v w (sends_of step.sends) (warden_outcome step.outcome) (omega (arith, c.requires, ws.ok.0)) c.index-mut.ensures.value did) c.on.ensures.did;
+      did = if_ok (λ _. notes_of w ≡ notes_of v) c.on.result (λ step did. heard_by (vec_items ws) c.args.warden.index c.args.from.0 c.args.note.0 (message_of c.args.message) v w (sends_of step.sends) (warden_outcome step.outcome) (omega (arith, c.requires, ws.ok.0)) c.index_mut.ensures.value did) c.on.ensures.did;
       count = refl;
       office = refl;
       readers = refl;

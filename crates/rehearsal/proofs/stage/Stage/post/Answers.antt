@@ -11,7 +11,7 @@ use Rattle.rehearsal.proofs.stage.Stage.post.Goals as goal
 pub loop-letter-preserved : goal.loop-letter-preserved
 loop-letter-preserved c =
     let (cast, seed, way) = c.loop-letter.invariant in
-    let sent = c.in-ok-send.ensures in (
+    let sent = c.in_ok-send.ensures in (
       sent.cast ∙ cast,
       sent.seed ∙ seed,
       post_more _ _ _ _ _ c.args.letters.now c.loop-letter.letter-index c.letter-item.result (omega arith) c.letter-item.is (ap (λ (k : Cast). k.office.quorum.wardens) cast) way sent.way,

@@ -8,7 +8,7 @@ pub returns : goal.returns
 returns c =
     let s = c.args.self.now in
     let t = c.post.new.self in
-    let letters = ap (map letter_of) c.as-slice.ensures.value ∙ c.in-Ok.ensures.did in
+    let letters = ap (map letter_of) c.as_slice.ensures.value ∙ c.in-Ok.ensures.did in
     record {
       stays = stays_by s t c.post.ensures.cast c.post.ensures.seed;
       scene = if_made c.post.result (λ _ more. scene_by s t _ _ c.post.ensures.cast letters more) c.post.ensures.way;

@@ -5,4 +5,4 @@ pub loop-to-init : goal.loop-to-init
 loop-to-init c = each_none _ _
 
 pub loop-to-preserved : goal.loop-to-preserved
-loop-to-preserved c = each_more _ _ _ _ _ c.loop-to.invariant c.in-ok-put.ensures.packets
+loop-to-preserved c = each_more _ _ _ _ _ c.loop-to.invariant c.in_ok-put.ensures.packets

@@ -10,5 +10,5 @@ returns c =
     record {
       disk = same c.args.self.now.condition c.burns.new.self.condition (disk_of c.args.self.now) (disk_of c.burns.new.self) c.burns.ensures.state c.burns.ensures.disk;
       state = c.burns.ensures.state;
-      sent = ap (map parcel_of) c.in-ok-push.ensures.items ∙ map-append parcel_of (vec_items c.burns.new.self.outlet) (c.args.what ∷ []) ∙ ap (λ (sent : List Parcel). sent ++ (parcel_of c.args.what ∷ [])) c.burns.ensures.sent;
+      sent = ap (map parcel_of) c.in_ok-push.ensures.items ∙ map-append parcel_of (vec_items c.burns.new.self.outlet) (c.args.what ∷ []) ∙ ap (λ (sent : List Parcel). sent ++ (parcel_of c.args.what ∷ [])) c.burns.ensures.sent;
     }

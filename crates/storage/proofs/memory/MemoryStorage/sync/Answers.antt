@@ -8,11 +8,11 @@ pub returns-then-not-burns : goal.returns-then-not-burns
 returns-then-not-burns c =
     record { disk = still c.args.self.now.condition c.burns.new.self.condition (disk_of c.args.self.now) (disk_of c.burns.new.self) c.burns.ensures.state c.burns.ensures.disk; state = c.burns.ensures.state; sent = c.burns.ensures.sent }
 
-pub returns-in-default : goal.returns-in-default
-returns-in-default c =
+pub returns-in_default : goal.returns-in_default
+returns-in_default c =
     let burnt = disk_of c.burns.new.self in
     record {
-      disk = still c.args.self.now.condition c.burns.new.self.condition (disk_of c.args.self.now) _ c.burns.ensures.state (ap (λ (g : File). record { file = g; beside = burnt.beside; former = burnt.former }) c.in-default.ensures ∙ c.burns.ensures.disk);
+      disk = still c.args.self.now.condition c.burns.new.self.condition (disk_of c.args.self.now) _ c.burns.ensures.state (ap (λ (g : File). record { file = g; beside = burnt.beside; former = burnt.former }) c.in_default.ensures ∙ c.burns.ensures.disk);
       state = c.burns.ensures.state;
       sent = c.burns.ensures.sent;
     }

@@ -8,6 +8,6 @@ pub returns-then-not-burns : goal.returns-then-not-burns
 returns-then-not-burns c =
     record { disk = beside c.args.self.now.condition c.burns.new.self.condition (disk_of c.args.self.now) (disk_of c.burns.new.self) (file_of c.args.self.now.beside) c.burns.ensures.state c.burns.ensures.disk; state = c.burns.ensures.state; sent = c.burns.ensures.sent }
 
-pub returns-in-default : goal.returns-in-default
-returns-in-default c =
+pub returns-in_default : goal.returns-in_default
+returns-in_default c =
     record { disk = beside c.args.self.now.condition c.burns.new.self.condition (disk_of c.args.self.now) _ (file_of c.sync.new.self) c.burns.ensures.state (ap (with_beside (file_of c.sync.new.self)) c.burns.ensures.disk); state = c.burns.ensures.state; sent = c.burns.ensures.sent }

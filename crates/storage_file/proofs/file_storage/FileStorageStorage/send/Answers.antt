@@ -8,5 +8,5 @@ returns c =
     record {
       disk = λ _ h. h;
       state = refl;
-      sent = ap (map parcel_of) c.in-ok-push.ensures.items ∙ map-append parcel_of (vec_items c.args.self.now.outlet) (c.args.what ∷ []);
+      sent = ap (map parcel_of) c.in_ok-push.ensures.items ∙ map-append parcel_of (vec_items c.args.self.now.outlet) (c.args.what ∷ []);
     }
