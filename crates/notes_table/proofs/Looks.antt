@@ -1,57 +1,104 @@
 -- What is found among numbers in rising order, before and after something is put there.
 -- Assumes nothing.
-use Rattle.std.proofs.Common.{◌≡◌, ℕ, zero, suc, ◌+◌, ◌-◌, ◌<◌, ◌≤◌, true, eqb, List, [], ◌∷◌, length, get_or, set, is_some, Some, None, Ok, Err, sym, refl, ap, ◌∙◌, ⊎_elim, arith}
+use Rattle.std.proofs.Common.{◌≡◌, ℕ, Bool, false, cond, zero, suc, ◌+◌, ◌-◌, ◌<◌, ◌≤◌, true, eqb, List, [], ◌∷◌, length, get_or, set, is_some, Some, None, Ok, Err, sym, refl, ap, ◌∙◌, ⊎_elim, arith}
 use mathlib.Core.Path.{fun_ext}
 use Rattle.std.specs.List.{insert}
 use Rattle.std.proofs.lemmas.List.Edits.{length-insert, get_or-insert_below, get_or-insert_at, get_or-insert_above}
-use Rattle.std.proofs.lemmas.Map.{Hit, Missing, lookup-hit, lookup-missing, lookup-set, lookup-insert}
-use Rattle.std.proofs.lemmas.Bool.{eqb-true, eq-eqb, ne_eqb, cases_lt, cases_order}
+use Rattle.std.proofs.lemmas.Bool.{both_ways, cond-true, cond-false, eqb-true, eq-eqb, ne_eqb, cases_lt, cases_order}
 use Rattle.register.specs.Count.{put}
 use Rattle.notes_table.specs.Places.{Rising, Finds, look}
 
-turned : (a b : ℕ) → eqb a b ≡ eqb b a
-turned a b = grind arith
+-- k is met at the place i, and not before
+abbrev Hit : ℕ → List ℕ → ℕ → Type 0
+Hit k [] i = ⊥
+Hit k (n ∷ ns) zero = eqb k n ≡ true
+Hit k (n ∷ ns) (suc i) = (eqb k n ≡ false) × Hit k ns i
 
-alike : (a b c : ℕ) → eqb a b ≡ true → eqb a c ≡ eqb b c
-alike a b c e = ap (λ n. eqb n c) (eqb-true a b e)
+-- k is not met
+abbrev Missing : ℕ → List ℕ → Type 0
+Missing k [] = Unit {0}
+Missing k (n ∷ ns) = (eqb k n ≡ false) × Missing k ns
 
 -- a number is met at its place, and not before
-hit : (ns : List ℕ) (k i : ℕ) → Rising ns → Finds ns k (Ok i) → Hit eqb k ns i
+hit : (ns : List ℕ) (k i : ℕ) → Rising ns → Finds ns k (Ok i) → Hit k ns i
 hit [] k i rising (within, is) = absurd (omega arith)
 hit (n ∷ ns) k zero rising (within, is) = eq-eqb k n (sym is)
 hit (n ∷ ns) k (suc i) rising (within, is) =
     (ne_eqb k n (λ e. omega (arith, rising 0 (suc i) (omega arith) within)), hit ns k i (λ a b less end. rising (suc a) (suc b) (omega arith) (omega arith)) (omega arith, is))
 
 -- a number that stands nowhere
-nowhere : (ns : List ℕ) (k : ℕ) → ((j : ℕ) → j < length ns → get_or ns j 0 ≡ k → ⊥) → Missing eqb k ns
+nowhere : (ns : List ℕ) (k : ℕ) → ((j : ℕ) → j < length ns → get_or ns j 0 ≡ k → ⊥) → Missing k ns
 nowhere [] k never = tt
 nowhere (n ∷ ns) k never = (ne_eqb k n (λ e. never 0 (omega arith) (sym e)), nowhere ns k (λ j h. never (suc j) (omega arith)))
 
 -- a number that would have a place has none
-missing : (ns : List ℕ) (k i : ℕ) → Finds ns k (Err i) → Missing eqb k ns
+missing : (ns : List ℕ) (k i : ℕ) → Finds ns k (Err i) → Missing k ns
 missing ns k i (within, below, above) = nowhere ns k (λ j h is. ⊎_elim (λ l. omega (arith, below j l)) (λ l. omega (arith, above j l h)) (cases_lt j i))
 
 pub look_none : {A : Type 0} → look {A = A} [] [] ≡ (λ _. None)
 unfolding look
-look_none = refl
+look_none = fun_ext (λ k. refl)
+
+-- the value at two tests, the first of which stands for the second
+both : {B : Type 0} (t : Bool) (w v r : B) → cond t w r ≡ cond t w (cond t v r)
+both true w v r = refl
+both false w v r = refl
+
+-- two tests that do not both pass can be made in either order
+either : {B : Type 0} (s t : Bool) (w v r : B) → (s ≡ true → t ≡ true → ⊥) → cond t v (cond s w r) ≡ cond s w (cond t v r)
+either true true w v r apart = absurd (apart refl refl)
+either true false w v r apart = refl
+either false true w v r apart = refl
+either false false w v r apart = refl
+
+-- the number of another place is not met together with k
+not_both : (k n q : ℕ) → eqb k n ≡ false → eqb q k ≡ true → eqb q n ≡ true → ⊥
+not_both k n q apart one other = both_ways (eqb k n) apart (eq-eqb k n (sym (eqb-true q k one) ∙ eqb-true q n other))
+
+look_hit : {A : Type 0} (k : ℕ) (d : A) (ns : List ℕ) (ys : List A) (i : ℕ) → Hit k ns i → i < length ys → look ns ys k ≡ Some (get_or ys i d)
+unfolding look
+look_hit k d [] ys i h l = absurd h
+look_hit k d (n ∷ ns) [] i h l = absurd (omega arith)
+look_hit k d (n ∷ ns) (y ∷ ys) zero h l = cond-true (eqb k n) (Some y) (look ns ys k) h
+look_hit k d (n ∷ ns) (y ∷ ys) (suc i) h l = cond-false (eqb k n) (Some y) (look ns ys k) h.0 ∙ look_hit k d ns ys i h.1 (omega arith)
+
+look_missing : {A : Type 0} (k : ℕ) (ns : List ℕ) (ys : List A) → Missing k ns → look ns ys k ≡ None
+unfolding look
+look_missing k [] ys h = refl
+look_missing k (n ∷ ns) [] h = refl
+look_missing k (n ∷ ns) (y ∷ ys) h = cond-false (eqb k n) (Some y) (look ns ys k) h.0 ∙ look_missing k ns ys h.1
+
+look_changed : {A : Type 0} (k q : ℕ) (w : A) (ns : List ℕ) (ys : List A) (i : ℕ) → Hit k ns i → i < length ys → look ns (set ys i w) q ≡ put k (Some w) (look ns ys) q
+unfolding look
+look_changed k q w [] ys i h l = absurd h
+look_changed k q w (n ∷ ns) [] i h l = absurd (omega arith)
+look_changed k q w (n ∷ ns) (y ∷ ys) zero h l = rw (eqb-true k n h) (both (eqb q n) (Some w) (Some y) (look ns ys q))
+look_changed k q w (n ∷ ns) (y ∷ ys) (suc i) h l =
+    ap (cond (eqb q n) (Some y)) (look_changed k q w ns ys i h.1 (omega arith))
+    ∙ either (eqb q k) (eqb q n) (Some w) (Some y) (look ns ys q) (not_both k n q h.0)
+
+look_added : {A : Type 0} (k q : ℕ) (w : A) (i : ℕ) (ns : List ℕ) (ys : List A) → Missing k ns → length ys ≡ length ns → i ≤ length ns → look (insert ns i k) (insert ys i w) q ≡ put k (Some w) (look ns ys) q
+unfolding look
+look_added k q w zero ns ys h pairs l = refl
+look_added k q w (suc i) [] ys h pairs l = absurd (omega arith)
+look_added k q w (suc i) (n ∷ ns) [] h pairs l = absurd (omega arith)
+look_added k q w (suc i) (n ∷ ns) (y ∷ ys) h pairs l =
+    ap (cond (eqb q n) (Some y)) (look_added k q w i ns ys h.1 (omega arith) (omega arith))
+    ∙ either (eqb q k) (eqb q n) (Some w) (Some y) (look ns ys q) (not_both k n q h.0)
 
 -- what is found of a number, and what is found of any once something was put at the place of this one
 module _ {A : Type 0} (ns : List ℕ) (ys : List A) (k i : ℕ) where
   pub found : (d : A) → Rising ns → length ys ≡ length ns → Finds ns k (Ok i) → look ns ys k ≡ Some (get_or ys i d)
-  unfolding look
-  found d rising pairs place = lookup-hit eqb k d ns ys i (hit ns k i rising place) (omega (arith, place.0))
+  found d rising pairs place = look_hit k d ns ys i (hit ns k i rising place) (omega (arith, place.0))
 
   pub absent : Finds ns k (Err i) → look ns ys k ≡ None
-  unfolding look
-  absent place = lookup-missing eqb k ns ys (missing ns k i place)
+  absent place = look_missing k ns ys (missing ns k i place)
 
   pub look_set : (w : A) → Rising ns → length ys ≡ length ns → Finds ns k (Ok i) → look ns (set ys i w) ≡ put k (Some w) (look ns ys)
-  unfolding look
-  look_set w rising pairs place = fun_ext (λ q. lookup-set eqb turned alike k q w ns ys i (hit ns k i rising place) (omega (arith, place.0)))
+  look_set w rising pairs place = fun_ext (λ q. look_changed k q w ns ys i (hit ns k i rising place) (omega (arith, place.0)))
 
   pub look_inserted : (w : A) → length ys ≡ length ns → Finds ns k (Err i) → look (insert ns i k) (insert ys i w) ≡ put k (Some w) (look ns ys)
-  unfolding look
-  look_inserted w pairs place = fun_ext (λ q. lookup-insert eqb turned alike k q w i ns ys (missing ns k i place) place.0 (omega (arith, place.0)))
+  look_inserted w pairs place = fun_ext (λ q. look_added k q w i ns ys (missing ns k i place) pairs place.0)
 
 -- something is had under a number that has a place
 pub held : {A : Type 0} (ns : List ℕ) (ys : List A) (k i : ℕ) → Rising ns → length ys ≡ length ns → Finds ns k (Ok i) → is_some (look ns ys k) ≡ true

@@ -1,7 +1,6 @@
 -- Numbers in rising order, and what stands beside each.
 -- Assumes nothing.
-use Rattle.std.specs.Prelude.{◌≡◌, ℕ, ◌<◌, ◌≤◌, List, length, Ok, Err, Option, Result, nat_eq, slice_index}
-use Rattle.std.specs.Map.{lookup}
+use Rattle.std.specs.Prelude.{◌≡◌, ℕ, ◌<◌, ◌≤◌, List, [], ◌∷◌, length, Some, None, Ok, Err, Option, Result, ◌==◌, cond, slice_index}
 
 -- each number is higher than those before it
 abbrev pub Rising : List ℕ → Type 0
@@ -14,4 +13,6 @@ Finds ns k (Err i) = (i ≤ length ns) × ((j : ℕ) → j < i → slice_index n
 
 -- what stands beside the first k, if k is among the numbers
 unfoldable pub look : {A : Type 0} → List ℕ → List A → ℕ → Option A
-look = lookup nat_eq
+look [] ys k = None
+look (n ∷ ns) [] k = None
+look (n ∷ ns) (y ∷ ys) k = cond (k == n) (Some y) (look ns ys k)

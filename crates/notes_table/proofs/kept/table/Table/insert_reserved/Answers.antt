@@ -20,12 +20,14 @@ module _ (g : given.Over) (c : After-insert-2 g) where
   more_items : length (vec_items c.insert-2.new.self) ≡ length (vec_items c.args.self.now.items) + 1
   more_items = ap length items ∙ length-insert (vec_items c.args.self.now.items) c.args.place c.args.item (omega (arith, c.requires.place.0, c.args.self.now.pairs))
 
-pub invariant-of-self : goal.invariant-of-self
-invariant-of-self g c =
-    let t = c.args.self.now in (
-      rw (numbers g c) (rising_inserted (vec_items t.numbers) c.args.number.0 c.args.place t.rising c.requires.place),
-      (more_items g c ∙ ap (λ n. n + 1) t.pairs ∙ sym (more g c), (omega (arith, more g c, c.requires.few), tt)),
-    )
+pub invariant_of-self : goal.invariant_of-self
+invariant_of-self g c =
+    let t = c.args.self.now in
+    record {
+      rising = rw (numbers g c) (rising_inserted (vec_items t.numbers) c.args.number.0 c.args.place t.rising c.requires.place);
+      pairs = more_items g c ∙ ap (λ n. n + 1) t.pairs ∙ sym (more g c);
+      few = omega (arith, more g c, c.requires.few);
+    }
 
 pub returns : goal.returns
 returns g c =
