@@ -31,7 +31,7 @@ pub fn open<P: Replay, S: Storage>(
     let whole = load(party, store, role, window)?;
     let opening = cut_off(store, role, whole, window.as_slice())?;
     store.sync_folder()?;
-    store.sync_folder()?;
+    store.sync()?;
     Ok(opening)
 }
 

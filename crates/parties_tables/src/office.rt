@@ -146,10 +146,10 @@ impl Office {
         ensures quorum { self.new.quorum ≡ self.old.quorum }
         ensures closed { office_of self.new ≡ close_writing (office_of self.old) number.0 edition.0 }
     {
-        let mut desk = self.desk(number);
-        if desk.busy && edition.is(desk.now.edition) {
-            desk.busy = false;
-            let _ = self.desks.set(number, desk);
+        let mut ended = self.desk(number);
+        if ended.busy && edition.is(ended.now.edition) {
+            ended.busy = false;
+            let _ = self.desks.set(number, ended);
             remove(&mut self.under_way, number);
         }
     }
