@@ -19,7 +19,7 @@ fn numbers_come_in_any_order(rt: HostRuntime) {
         has(&rt, &table, number, None);
         put(&rt, &mut table, number, number as u64 + 1);
     }
-    assert!(rt; table.numbers.as_slice() == &[0, 5, 7, 8, 9, u32::MAX]);
+    assert!(rt; table.numbers.as_slice() == [0, 5, 7, 8, 9, u32::MAX].as_slice());
     for number in [0, 5, 7, 8, 9, u32::MAX] {
         has(&rt, &table, number, Some(number as u64 + 1));
     }

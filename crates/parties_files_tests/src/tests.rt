@@ -101,7 +101,7 @@ fn garbage_is_set_aside(rt: HostRuntime) -> Result<(), Fail> {
     let (warden, opening) = opened(rt.alloc(), &mut disk)?;
     assert_eq!(rt; opening.cut, 3);
     assert!(rt; opening.damaged);
-    assert!(rt; disk.aside.as_slice() == &[9, 9, 9]);
+    assert!(rt; disk.aside.as_slice() == [9, 9, 9].as_slice());
     assert_eq!(rt; disk.file.synced.len(), size);
     has_edition(&rt, &warden, 1);
     Ok(())
@@ -183,7 +183,7 @@ fn the_office_goes_on_with_its_edition(rt: HostRuntime) -> Result<(), Fail> {
     let desk = office.desks.desk(ROUTE);
     assert!(rt; desk.busy);
     assert_eq!(rt; desk.now.edition.0, 1);
-    assert!(rt; desk.now.value.bytes() == b"shut");
+    assert!(rt; desk.now.value.bytes() == b"shut".as_slice());
     let refused = done(office.write(&mut disk, ROUTE, value))?;
     assert!(rt; matches!(refused, OfficeOutcome::Refused(Refusal::NotNow)));
     Ok(())

@@ -12,9 +12,7 @@ use notes::warden_id::WardenId;
 use parties::desk::Desk;
 use parties::step::{OfficeOutcome, ReaderOutcome, WardenOutcome};
 use parties_tables::office::Office;
-use std::alloc::Global;
-use std::fmt;
-use std::fmt::Write as _;
+use std::alloc::{AllocError, Global};
 
 /// The lines so far.
 #[derive(Drop)]
@@ -30,42 +28,47 @@ impl Transcript {
     }
 
     /// A remark of the script, as it stands.
-    pub fn remark(&mut self, line: &str) -> fmt::Result {
+    pub fn remark(&mut self, line: &str) -> Result<(), AllocError> {
         writeln!(self.text, "{line}")
     }
 
     /// A command, before it is done.
-    pub fn echo(&mut self, line: &str) -> fmt::Result {
+    pub fn echo(&mut self, line: &str) -> Result<(), AllocError> {
         writeln!(self.text, "> {line}")
     }
 
     /// Why a line of the script is turned away.
-    pub fn turned_away(&mut self, line: u64, error: ScriptError) -> fmt::Result {
+    pub fn turned_away(&mut self, line: u64, error: ScriptError) -> Result<(), AllocError> {
         writeln!(self.text, "line {line}: {error}")
     }
 
-    pub fn begins(&mut self, quorum: Quorum) -> fmt::Result {
+    pub fn begins(&mut self, quorum: Quorum) -> Result<(), AllocError> {
         let wardens = quorum.wardens;
         let faults = quorum.faults;
         writeln!(self.text, "  {wardens} wardens, of whom {faults} may lie")
     }
 
-    pub fn turns(&mut self, warden: WardenId) -> fmt::Result {
+    pub fn turns(&mut self, warden: WardenId) -> Result<(), AllocError> {
         let warden = warden.index;
         writeln!(self.text, "  {warden} lies from now on")
     }
 
-    pub fn forgets(&mut self, warden: WardenId) -> fmt::Result {
+    pub fn forgets(&mut self, warden: WardenId) -> Result<(), AllocError> {
         let warden = warden.index;
         writeln!(self.text, "  {warden} has lost its notes")
     }
 
-    pub fn seeds(&mut self, seed: u64) -> fmt::Result {
+    pub fn seeds(&mut self, seed: u64) -> Result<(), AllocError> {
         writeln!(self.text, "  liars answer by the seed {seed}")
     }
 
     /// What the office did when it was told to write a note, of which it now has this.
-    pub fn writes(&mut self, note: NoteId, now: Note, outcome: OfficeOutcome) -> fmt::Result {
+    pub fn writes(
+        &mut self,
+        note: NoteId,
+        now: Note,
+        outcome: OfficeOutcome,
+    ) -> Result<(), AllocError> {
         let number = note.0;
         match outcome {
             OfficeOutcome::Refused(refusal) => writeln!(self.text, "  office: {}", Text(refusal)),
@@ -78,7 +81,7 @@ impl Transcript {
     }
 
     /// What the office did when time passed.
-    pub fn office_ticks(&mut self, office: &Office) -> fmt::Result {
+    pub fn office_ticks(&mut self, office: &Office) -> Result<(), AllocError> {
         if office.under_way.is_empty() {
             writeln!(self.text, "  office: nothing to do")
         } else {
@@ -87,7 +90,12 @@ impl Transcript {
     }
 
     /// What a reader did when it was told to read, or when time passed.
-    pub fn reader(&mut self, cast: &Cast, reader: ReaderId, outcome: ReaderOutcome) -> fmt::Result {
+    pub fn reader(
+        &mut self,
+        cast: &Cast,
+        reader: ReaderId,
+        outcome: ReaderOutcome,
+    ) -> Result<(), AllocError> {
         let id = Text(reader.id());
         match outcome {
             ReaderOutcome::Asked | ReaderOutcome::Retried => {
@@ -103,7 +111,12 @@ impl Transcript {
     }
 
     /// A message came to whom it was for.
-    pub fn comes(&mut self, cast: &Cast, packet: Packet, arrival: Arrival) -> fmt::Result {
+    pub fn comes(
+        &mut self,
+        cast: &Cast,
+        packet: Packet,
+        arrival: Arrival,
+    ) -> Result<(), AllocError> {
         let number = packet.number;
         let to = Text(packet.to);
         write!(self.text, "  {number}: comes to {to}")?;
@@ -119,7 +132,12 @@ impl Transcript {
     }
 
     // The rest of a line: what a message about a note came to, at the office, at a warden, at a reader.
-    fn office_came_to(&mut self, note: NoteId, now: Note, outcome: OfficeOutcome) -> fmt::Result {
+    fn office_came_to(
+        &mut self,
+        note: NoteId,
+        now: Note,
+        outcome: OfficeOutcome,
+    ) -> Result<(), AllocError> {
         let number = note.0;
         match outcome {
             OfficeOutcome::Ended => writeln!(self.text, ": ended {number} {}", now.edition.0),
@@ -128,7 +146,7 @@ impl Transcript {
         }
     }
 
-    fn warden_came_to(&mut self, outcome: WardenOutcome) -> fmt::Result {
+    fn warden_came_to(&mut self, outcome: WardenOutcome) -> Result<(), AllocError> {
         match outcome {
             WardenOutcome::Taken => writeln!(self.text, ": taken"),
             WardenOutcome::Answered => writeln!(self.text, ": answered"),
@@ -136,7 +154,7 @@ impl Transcript {
         }
     }
 
-    fn reader_came_to(&mut self, note: NoteId, outcome: ReaderOutcome) -> fmt::Result {
+    fn reader_came_to(&mut self, note: NoteId, outcome: ReaderOutcome) -> Result<(), AllocError> {
         let number = note.0;
         match outcome {
             ReaderOutcome::Undecided => writeln!(self.text, ": undecided"),
@@ -148,7 +166,7 @@ impl Transcript {
     }
 
     /// The messages that are behind the first so many: those that were sent last.
-    pub fn sent(&mut self, way: &Way, before: usize) -> fmt::Result {
+    pub fn sent(&mut self, way: &Way, before: usize) -> Result<(), AllocError> {
         for packet in way.packets.iter().skip(before) {
             writeln!(self.text, "  {packet}")?;
         }
@@ -156,20 +174,20 @@ impl Transcript {
     }
 
     /// What became of a message on its way.
-    pub fn became(&mut self, packet: Packet, what: &str) -> fmt::Result {
+    pub fn became(&mut self, packet: Packet, what: &str) -> Result<(), AllocError> {
         writeln!(self.text, "  {}: {what}", packet.number)
     }
 
-    pub fn nothing_comes(&mut self) -> fmt::Result {
+    pub fn nothing_comes(&mut self) -> Result<(), AllocError> {
         writeln!(self.text, "  nothing is on its way")
     }
 
-    pub fn stops(&mut self, delivered: u32) -> fmt::Result {
+    pub fn stops(&mut self, delivered: u32) -> Result<(), AllocError> {
         writeln!(self.text, "  stopped after {delivered} messages")
     }
 
     /// What each party has, and how much is on its way.
-    pub fn show(&mut self, stage: &Stage) -> fmt::Result {
+    pub fn show(&mut self, stage: &Stage) -> Result<(), AllocError> {
         self.show_office(&stage.cast.office)?;
         for index in 0..63 {
             self.show_warden(&stage.cast, WardenId { index })?;
@@ -181,7 +199,7 @@ impl Transcript {
         writeln!(self.text, "  on the way: {on_way}")
     }
 
-    fn show_office(&mut self, office: &Office) -> fmt::Result {
+    fn show_office(&mut self, office: &Office) -> Result<(), AllocError> {
         if office.desks.count() == 0 {
             return writeln!(self.text, "  office: no notes");
         }
@@ -191,7 +209,7 @@ impl Transcript {
         Ok(())
     }
 
-    fn show_desk(&mut self, number: u32, desk: &Desk) -> fmt::Result {
+    fn show_desk(&mut self, number: u32, desk: &Desk) -> Result<(), AllocError> {
         let note = Text(desk.now);
         let acks = Text(desk.acks);
         let writing = if desk.busy {
@@ -206,7 +224,7 @@ impl Transcript {
     }
 
     // A warden that does not take part is passed over.
-    fn show_warden(&mut self, cast: &Cast, id: WardenId) -> fmt::Result {
+    fn show_warden(&mut self, cast: &Cast, id: WardenId) -> Result<(), AllocError> {
         let Some(warden) = cast.wardens.get(id.index as usize) else {
             return Ok(());
         };
@@ -223,7 +241,7 @@ impl Transcript {
     }
 
     // A reader that never began to read is passed over.
-    fn show_reader(&mut self, cast: &Cast, reader: ReaderId) -> fmt::Result {
+    fn show_reader(&mut self, cast: &Cast, reader: ReaderId) -> Result<(), AllocError> {
         if !cast.readers.has_read(reader) {
             return Ok(());
         }
