@@ -1,6 +1,6 @@
 -- Bytes that are added one after the other, and the start of a frame.
 -- Assumes nothing.
-use Rattle.std.proofs.Common.{◌≡◌, ℕ, ◌+◌, ◌≤◌, List, [], ◌∷◌, ◌++◌, length, vec_items, Vec, sym, ap, ◌∙◌, subst, append_assoc, append-nil, arith, length-append, length-take}
+use Rattle.std.proofs.Common.{◌≡◌, ℕ, ◌≤◌, List, [], ◌∷◌, ◌++◌, length, vec_items, Vec, sym, ap, ◌∙◌, subst, append_assoc, append-nil, arith, length-append, length-take}
 use native.Mathlib.Nat.{min-le_left}
 use Rattle.std.specs.declared.alloc.Global.{Global}
 use Rattle.notes.specs.Views.{bytes_of}

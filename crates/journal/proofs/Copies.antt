@@ -1,6 +1,6 @@
 -- One window more of what is copied.
 -- Assumes nothing.
-use Rattle.std.proofs.Common.{◌≡◌, ℕ, zero, suc, ◌+◌, ◌-◌, ◌<◌, ◌≤◌, min, List, [], ◌∷◌, ◌++◌, length, take, drop, sym, refl, ap, ◌∙◌, suc-add, zero-add, arith, length-drop, length-take}
+use Rattle.std.proofs.Common.{◌≡◌, ℕ, zero, suc, ◌+◌, ◌-◌, ◌<◌, ◌≤◌, min, List, [], ◌∷◌, ◌++◌, length, take, drop, sym, ap, ◌∙◌, suc-add, zero-add, arith, length-drop, length-take}
 
 take_on : {A : Type 0} → (i j : ℕ) (l : List A) → take i l ++ take j (drop i l) ≡ take (i + j) l
 take_on {A} zero j l = ap (λ (k : ℕ). take k l) (sym (zero-add j))

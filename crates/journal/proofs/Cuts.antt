@@ -1,6 +1,6 @@
 -- What is left of a disk when a file is opened, or cannot be.
 -- Assumes nothing.
-use Rattle.std.proofs.Common.{◌≡◌, ℕ, zero, suc, ◌+◌, ◌-◌, ◌≤◌, min, ◌⊎◌, List, [], ◌∷◌, ◌++◌, length, take, drop, sym, refl, ap, ◌∙◌, subst, ⊎_elim, arith, length-append}
+use Rattle.std.proofs.Common.{◌≡◌, ℕ, zero, suc, ◌-◌, ◌≤◌, min, List, [], ◌∷◌, ◌++◌, length, take, drop, sym, ap, ◌∙◌, subst, ⊎_elim, arith, length-append}
 use native.Mathlib.Nat.{zero-min, min-zero, suc-min-suc}
 use Rattle.std.proofs.lemmas.List.{take_all, take_at}
 use Rattle.frames.specs.Format.{Frame}
@@ -9,7 +9,7 @@ use Rattle.frames.specs.declared.role.Role.{Role}
 use Rattle.frames.proofs.Records.{encode_all-++}
 use Rattle.protocol_files.proofs.Journals.{leads}
 use Rattle.protocol_files.specs.Disk.{File, Disk, blank, contents, keep, with_beside, cut_back, sync, sync_folder, Cut, left, cut}
-use Rattle.storage.specs.Changes.{Shortened, Scribbled, Perhaps}
+use Rattle.storage.specs.Changes.{Shortened, Perhaps}
 use Rattle.storage.proofs.Unchanged.{shortened_none}
 use Rattle.journal.specs.Openings.{Sound, opened_disk}
 

@@ -1,9 +1,9 @@
 -- What stands behind the last whole record of a file.
 -- Assumes nothing.
-use Rattle.std.proofs.Common.{◌≡◌, ℕ, ◌-◌, ◌≤◌, Bool, true, false, not, List, [], ◌∷◌, ◌++◌, length, take, drop, MatchBool, sym, refl, ap, ◌∙◌, subst, arith, length-append, length-take}
+use Rattle.std.proofs.Common.{◌≡◌, ℕ, ◌-◌, ◌≤◌, Bool, true, false, List, ◌++◌, length, take, drop, MatchBool, sym, ap, subst, arith, length-append, length-take}
 use Rattle.std.proofs.lemmas.List.{take_all}
 use Rattle.frames.specs.Format.{Frame, encode}
-use Rattle.frames.specs.Journal.{encode_all, Records, NoRecord, StrictFront, Splits}
+use Rattle.frames.specs.Journal.{encode_all, Records, NoRecord, StrictFront}
 use Rattle.frames.specs.declared.role.Role.{Role}
 use Rattle.frames.proofs.Records.{record_long}
 use Rattle.journal.specs.Openings.{Found}

@@ -1,9 +1,9 @@
 -- One window more of a file.
 -- Assumes nothing.
-use Rattle.std.proofs.Common.{◌≡◌, ℕ, ◌+◌, ◌≤◌, List, [], ◌∷◌, ◌++◌, length, take, drop, sym, refl, ap, ◌∙◌, subst, append_assoc, append-nil, arith, lit≤, length-append, take-append-drop}
+use Rattle.std.proofs.Common.{◌≡◌, ℕ, ◌+◌, List, [], ◌∷◌, ◌++◌, length, take, drop, sym, refl, ap, ◌∙◌, subst, append_assoc, append-nil, arith, lit≤, length-append, take-append-drop}
 use Rattle.std.proofs.lemmas.List.{drop_at}
 use Rattle.frames.specs.Format.{Frame}
-use Rattle.frames.specs.Journal.{encode_all, Records, NoRecord}
+use Rattle.frames.specs.Journal.{encode_all, NoRecord}
 use Rattle.frames.specs.declared.role.Role.{Role}
 use Rattle.frames.proofs.Records.{encode_all-++, records-++, long_enough}
 use Rattle.protocol_files.specs.Disk.{Disk, contents}

@@ -1,12 +1,12 @@
 -- One record more at the front of bytes.
 -- Assumes nothing.
-use Rattle.std.proofs.Common.{◌≡◌, ℕ, ◌+◌, ◌-◌, ◌≤◌, List, [], ◌∷◌, ◌++◌, length, drop, sym, refl, ap, ◌∙◌, append_assoc, append-nil, arith, length-append}
+use Rattle.std.proofs.Common.{◌≡◌, ℕ, ◌-◌, List, [], ◌∷◌, ◌++◌, length, drop, sym, refl, ap, ◌∙◌, append_assoc, append-nil, arith, length-append}
 use Rattle.std.proofs.lemmas.List.{drop_at}
 use Rattle.frames.specs.Format.{Frame, encode}
-use Rattle.frames.specs.Journal.{encode_all, IsRecord, Records}
+use Rattle.frames.specs.Journal.{encode_all, IsRecord}
 use Rattle.frames.specs.declared.role.Role.{Role}
 use Rattle.frames.proofs.Records.{encode_all-++, records-++}
-use Rattle.journal.specs.Replays.{Replayed, none, more, Scanned}
+use Rattle.journal.specs.Replays.{none, more, Scanned}
 
 module _ {X : Type 0} (R : X → Frame → X → Type 0) (role : Role) (bs : List ℕ) where
   pub begin : (x : X) → Scanned R role bs 0 x x

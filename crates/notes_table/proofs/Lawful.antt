@@ -1,8 +1,8 @@
 -- What follows for whoever has tables.
 -- Assumes nothing.
-use Rattle.std.proofs.Common.{◌≡◌, ℕ, ◌<◌, ◌≤◌, Bool, true, false, cond, eqb, get_or, Some, Ok, Err, vec_items, Option, Result, refl, ap, ◌∙◌, ⊎_elim, arith}
+use Rattle.std.proofs.Common.{◌≡◌, ℕ, ◌<◌, ◌≤◌, Bool, true, false, get_or, Some, Ok, Err, vec_items, Option, Result, refl, ap, ◌∙◌, ⊎_elim, arith}
 use Rattle.std.proofs.lemmas.Bool.{both_ways, ne_eqb, cases_lt}
-use Rattle.register.specs.Count.{count, put}
+use Rattle.register.specs.Count.{put}
 use Rattle.register.proofs.Put.{put_same}
 use Rattle.notes_table.specs.Laws.{Laws}
 use Rattle.notes_table.specs.Views.{map_of, many, had, Sets, Puts}

@@ -1,7 +1,7 @@
 -- What the code's values say, as the rules have it; the number of each refusal.
 -- Assumes nothing.
 use Rattle.std.specs.Prelude.{◌≡◌, ℕ}
-use Rattle.notes.specs.Views.{note_of, members, replies_of}
+use Rattle.notes.specs.Views.{note_of}
 use Rattle.protocol.specs.Message as rules
 use Rattle.protocol.specs.Step as steps
 use Rattle.protocol.specs.Warden as wardens
@@ -19,9 +19,6 @@ use Rattle.parties.specs.declared.step.OfficeOutcome.{OfficeOutcome}
 use Rattle.parties.specs.declared.step.OfficeOutcome.TheVariants as office_outcomes
 use Rattle.parties.specs.declared.step.ReaderOutcome.{ReaderOutcome}
 use Rattle.parties.specs.declared.step.ReaderOutcome.TheVariants as reader_outcomes
-use Rattle.parties.specs.declared.step.WardenStep.{WardenStep}
-use Rattle.parties.specs.declared.step.OfficeStep.{OfficeStep}
-use Rattle.parties.specs.declared.step.ReaderStep.{ReaderStep}
 
 -- THE NUMBERS OF THE REFUSALS
 abbrev pub number_of : Refusal → ℕ

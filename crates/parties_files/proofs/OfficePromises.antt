@@ -1,21 +1,17 @@
 -- Every run goes on with what a call of the office did.
 -- Assumes nothing.
-use Rattle.std.proofs.Common.{◌≡◌, ℕ, ◌*◌, ◌<◌, Bool, true, false, ◌⊎◌, List, [], take, Ok, Err, MatchBool, Result, sym, refl, ap, ◌∙◌, subst, inl, inr, ⊎_elim, MatchResult}
-use mathlib.Core.List.{Memᴰ}
-use Rattle.protocol.specs.Message.{office, Message, Packet}
-use Rattle.protocol.specs.Step.{Outcome}
-use Rattle.protocol.specs.Office.{OfficeDone}
+use Rattle.std.proofs.Common.{◌≡◌, ℕ, ◌*◌, ◌<◌, Bool, true, false, ◌⊎◌, List, take, Ok, Err, MatchBool, Result, sym, ap, ◌∙◌, subst, inl, inr, ⊎_elim, MatchResult}
+use Rattle.protocol.specs.Message.{Message}
 use Rattle.parties.specs.Views.{office_outcome}
 use Rattle.parties.specs.declared.step.OfficeOutcome.{OfficeOutcome}
 use Rattle.protocol_tables.specs.Office as rules
 use Rattle.protocol_tables.specs.Office.{OfficeStep, post, office_writes, office_hears}
-use Rattle.frames.specs.Format.{Frame}
 use Rattle.frames.specs.Journal.{Splits, encode_all}
 use Rattle.frames.specs.declared.role.Role.TheVariants as roles
 use Rattle.protocol_files.specs.Disk.{Disk, contents, append, Cut}
 use Rattle.protocol_files.specs.Nodes.{Node, fallen, opened, recorded}
 use Rattle.protocol_files.specs.Records.{office_of, office_records}
-use Rattle.protocol_files.specs.System.{System, Run, Writable}
+use Rattle.protocol_files.specs.System.{Writable}
 use Rattle.protocol_files.specs.Runs.{OfficeGoesOn}
 use Rattle.protocol_files.proofs.Sound.{sound_office}
 use Rattle.protocol_files.proofs.OfficeGoes.{office_stays_on, office_falls_on, office_writes_on, office_write_stops_on, office_hears_on, office_hear_stops_on, office_opens_on, office_restores_on, office_renewed_on}

@@ -1,13 +1,13 @@
 -- A step of the office, with its file.
 -- Assumes nothing.
-use Rattle.std.proofs.Common.{◌≡◌, ℕ, Bool, true, false, cond, not, ◌&&◌, ◌||◌, eqb, ltb, leb, List, [], ◌∷◌, ◌++◌, sym, refl, ap, ◌∙◌, subst, append-nil}
+use Rattle.std.proofs.Common.{◌≡◌, ℕ, Bool, true, false, ◌||◌, ltb, leb, List, [], ◌∷◌, ◌++◌, sym, refl, ap, ◌∙◌, append-nil}
 use borrow.Author.Tests.{clash}
 use Rattle.std.proofs.lemmas.Bool.{cond_both}
 use Rattle.register.specs.Count.{count}
 use Rattle.register.specs.Rule.{quorum}
 use Rattle.protocol.specs.Message.{Message, Take, Took, Ask, Told}
-use Rattle.protocol.specs.Step.{Step, Outcome, Done, Refused, quiet, refuse}
-use Rattle.protocol.specs.Office.{OfficeDone, begun, ended, counted, Desk, last_edition, begin_writing, write_on, acknowledge, close, settle, awaits_took, took_on}
+use Rattle.protocol.specs.Step.{Step, Refused, quiet, refuse}
+use Rattle.protocol.specs.Office.{OfficeDone, ended, counted, Desk, last_edition, begin_writing, acknowledge, close, settle, awaits_took, took_on}
 use Rattle.parties.specs.Views.{office_outcome}
 use Rattle.parties.specs.declared.step.OfficeOutcome.{OfficeOutcome}
 use Rattle.parties.specs.declared.step.OfficeOutcome.TheVariants as outcomes
@@ -18,7 +18,7 @@ use Rattle.frames.specs.Format.{Frame, Begun, Ended, encode}
 use Rattle.frames.specs.Journal.{encode_all}
 use Rattle.protocol_files.specs.Disk.{Disk, append, sync}
 use Rattle.protocol_files.specs.Records.{office_records}
-use Rattle.protocol_files.specs.Nodes.{Node, recorded}
+use Rattle.protocol_files.specs.Nodes.{recorded}
 
 -- a write ends nothing, and a message begins nothing
 pub writes_end_nothing : (o : Office) (k : ℕ) (v : List ℕ) → ends (office_writes o k v).outcome ≡ false

@@ -1,26 +1,21 @@
 -- Every run goes on with what a warden's call did.
 -- Assumes nothing.
-use Rattle.std.proofs.Common.{◌≡◌, ℕ, ◌*◌, ◌<◌, Bool, true, false, ◌⊎◌, List, [], map, Ok, Err, vec_items, MatchBool, Result, sym, refl, ap, ◌∙◌, subst, inl, inr, ⊎_elim, MatchResult}
+use Rattle.std.proofs.Common.{◌≡◌, ℕ, ◌*◌, ◌<◌, Bool, true, false, ◌⊎◌, List, [], map, Ok, Err, MatchBool, Result, sym, ap, ◌∙◌, subst, inl, inr, ⊎_elim, MatchResult}
 use mathlib.Core.List.{Memᴰ}
-use Rattle.register.specs.Note.{Note}
 use Rattle.protocol.specs.Message.{Message, Packet}
-use Rattle.protocol.specs.Step.{Step}
-use Rattle.protocol.specs.Warden.{WardenDone}
 use Rattle.parties.specs.Views.{warden_outcome}
 use Rattle.parties.specs.declared.step.WardenOutcome.{WardenOutcome}
-use Rattle.protocol_tables.specs.Keep.{Keep}
 use Rattle.protocol_tables.specs.Warden.{warden_keeps}
-use Rattle.frames.specs.Format.{Frame}
 use Rattle.frames.specs.Journal.{Splits}
 use Rattle.frames.specs.declared.role.Role.TheVariants as roles
-use Rattle.protocol_files.specs.Disk.{Disk, contents, sync, with_beside, Cut}
+use Rattle.protocol_files.specs.Disk.{Disk, contents, sync, Cut}
 use Rattle.protocol_files.specs.Nodes.{Node, fallen, stepped, flushed, opened_warden}
 use Rattle.protocol_files.specs.Nodes as rules
 use Rattle.protocol_files.specs.Records.{warden_of}
 use Rattle.protocol_files.specs.System.{System, Run}
 use Rattle.protocol_files.specs.Runs.{WardenGoesOn}
 use Rattle.protocol_files.proofs.Sound.{sound_warden}
-use Rattle.protocol_files.proofs.WardenGoes.{warden_stays_on, warden_scribbles_on, warden_falls_on, warden_hears_on, warden_flushes_on, warden_opens_on, warden_restores_on, warden_renewed_on}
+use Rattle.protocol_files.proofs.WardenGoes.{warden_stays_on, warden_falls_on, warden_hears_on, warden_flushes_on, warden_opens_on, warden_restores_on, warden_renewed_on}
 use Rattle.storage.specs.Changes.{Scribbled}
 use Rattle.storage.specs.declared.fault.Fault.{Fault}
 use Rattle.journal.specs.Openings.{Found, Sound, Unstarted, opened_disk, renewed}

@@ -1,6 +1,6 @@
 -- Bytes that are written and synced at once, and a message that goes to each warden.
 -- Assumes nothing.
-use Rattle.std.specs.Prelude.{◌≡◌, ℕ, List, [], ◌∷◌, ◌++◌, map, take, Ok, Err, Result}
+use Rattle.std.specs.Prelude.{ℕ, List, map, take, Ok, Err, Result}
 use Rattle.protocol.specs.Message.{office, Message, Packet, Each, packets}
 use Rattle.protocol_files.specs.Disk.{Disk, append, sync}
 use Rattle.storage.specs.Changes.{Parcel}

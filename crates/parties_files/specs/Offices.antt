@@ -1,15 +1,13 @@
 -- The office with its disk, as the rules have it.
 -- Assumes nothing.
-use Rattle.std.specs.Prelude.{◌≡◌, ℕ, Bool, true, false, ◌⊎◌, List, [], ◌∷◌, ◌++◌, map, take, MatchBool}
-use Rattle.protocol.specs.Message.{office, Message, Packet, Sends, Nothing, One, Each, packets}
-use Rattle.protocol.specs.Step.{Outcome}
-use Rattle.protocol.specs.Office.{OfficeDone}
+use Rattle.std.specs.Prelude.{◌≡◌, ℕ, Bool, true, false, List, [], ◌∷◌, ◌++◌, map, take, MatchBool}
+use Rattle.protocol.specs.Message.{office, packets}
 use Rattle.parties_tables.specs.Offices as tables
 use Rattle.protocol_tables.specs.Office as rules
 use Rattle.frames.specs.Format.{Frame}
 use Rattle.frames.specs.Journal.{encode_all, Splits}
 use Rattle.frames.specs.declared.role.Role.TheVariants as roles
-use Rattle.protocol_files.specs.Disk.{Disk, contents, append, sync, Cut}
+use Rattle.protocol_files.specs.Disk.{Disk, contents, append}
 use Rattle.protocol_files.specs.Records.{office_records, office_replays, office_of}
 use Rattle.protocol_files.specs.Nodes.{Node, recorded}
 use Rattle.storage.specs.Changes.{Parcel}

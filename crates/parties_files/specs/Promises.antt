@@ -1,7 +1,7 @@
 -- What a call of a party with a file promises for every run in which the party is as it was before the call.
 -- P, Q: of the disk before and after the call; w, v: the party.
 -- Assumes nothing.
-use Rattle.std.specs.Prelude.{◌≡◌, ℕ, ◌*◌, ◌<◌, Bool, false, ◌⊎◌, List, []}
+use Rattle.std.specs.Prelude.{◌≡◌, ℕ, ◌*◌, ◌<◌, Bool, false, List, []}
 use mathlib.Core.List.{Memᴰ}
 use Rattle.protocol.specs.Message.{office, Message, Packet}
 use Rattle.protocol_files.specs.Disk.{Disk}

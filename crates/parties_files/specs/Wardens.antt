@@ -1,14 +1,13 @@
 -- A warden with its disk, as the rules have it.
 -- Assumes nothing.
-use Rattle.std.specs.Prelude.{◌≡◌, ℕ, Bool, true, false, ◌⊎◌, List, [], ◌∷◌, ◌++◌, map, take, vec_items, MatchBool}
+use Rattle.std.specs.Prelude.{◌≡◌, ℕ, Bool, true, false, ◌⊎◌, List, [], map, vec_items, MatchBool}
 use Rattle.register.specs.Note.{Note}
-use Rattle.protocol.specs.Message.{Message, Packet, Sends, Nothing, One, Each}
+use Rattle.protocol.specs.Message.{Packet, Sends, Nothing, One, Each}
 use Rattle.protocol.specs.Step.{Step, Outcome}
 use Rattle.protocol.specs.Warden.{WardenDone}
 use Rattle.parties.specs.Views.{message_of}
 use Rattle.parties_tables.specs.Wardens.{notes_of}
 use Rattle.protocol_tables.specs.Keep.{Keep}
-use Rattle.protocol_tables.specs.Warden.{warden_keeps}
 use Rattle.frames.specs.Format.{Frame}
 use Rattle.frames.specs.Journal.{Splits}
 use Rattle.frames.specs.declared.role.Role.TheVariants as roles

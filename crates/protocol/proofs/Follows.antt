@@ -1,9 +1,8 @@
 -- Every run is a run of the model, for each note and each reader; so its log is good.
 -- Assumes nothing.
-use Rattle.std.proofs.Common.{◌≡◌, ℕ, ◌*◌, ◌<◌, ◌≤◌, Bool, true, false, [], ◌∷◌, ◌++◌, sym, refl, subst, inl, ⊎_elim, arith}
+use Rattle.std.proofs.Common.{◌≡◌, ℕ, ◌*◌, ◌<◌, Bool, true, [], ◌∷◌, ◌++◌, sym, refl, subst, inl, ⊎_elim, arith}
 use mathlib.Core.Path.{fun_ext}
 use mathlib.Core.List.Memᴰ
-use mathlib.Core.List.{Memᴰ}
 use borrow.Author.Tests.{clash}
 use Rattle.std.proofs.lemmas.Bool.{cases_eq, both_ways, ne_eqb, eq-eqb}
 use Rattle.register.specs.Count.{put}
@@ -11,7 +10,7 @@ use Rattle.register.specs.Note.{Note, none}
 use Rattle.register.specs.Model.{World, start}
 use Rattle.register.specs.Model as M
 use Rattle.register.proofs.Put.{put_all, put_both, put_same}
-use Rattle.protocol.specs.Message.{office, Message, Take, Took, Ask, Told, Packet, packets}
+use Rattle.protocol.specs.Message.{office, Message, Take, Took, Ask, Told, packets}
 use Rattle.protocol.specs.Step.{Step}
 use Rattle.protocol.specs.Warden.{WardenDone, warden_on}
 use Rattle.protocol.specs.Office.{OfficeDone, Desk, write_on, office_tick, office_on}
@@ -21,7 +20,7 @@ use Rattle.protocol.specs.Promise.{Good}
 use Rattle.protocol.specs.System.{warden_event, office_event, reader_event, System, boot, by_office, by_warden, by_reader, Move, writes, office_ticks, office_hears, warden_hears, reads, reader_ticks, reader_hears, office_restarts, reader_restarts, lies, loses, Run, begin, then, Holds}
 use Rattle.protocol.proofs.Logs.{Rights, good_more, rights_good}
 use Rattle.protocol.proofs.Sound.{SoundDesk, SoundReader, too_few, sound_write, sound_office_tick, sound_office, sound_idle, sound_read, sound_reader_tick, sound_reader}
-use Rattle.protocol.proofs.Shows.{Says, Seen, seen, also, desked, wardened, readered, Followed}
+use Rattle.protocol.proofs.Shows.{Says, seen, also, desked, wardened, readered, Followed}
 use Rattle.protocol.proofs.OfficeSteps as O
 use Rattle.protocol.proofs.WardenSteps as W
 use Rattle.protocol.proofs.ReaderSteps as R

@@ -1,11 +1,11 @@
 -- What follows from a good log alone.
 -- Assumes nothing.
-use Rattle.std.proofs.Common.{◌≡◌, ℕ, ◌<◌, ◌≤◌, Bool, true, false, ◌||◌, List, [], ◌∷◌, ◌++◌, refl, ap, ⊎_elim, arith}
+use Rattle.std.proofs.Common.{◌≡◌, ℕ, Bool, List, [], ◌∷◌, refl, ap, ⊎_elim, arith}
 use mathlib.Core.List.Memᴰ
 use mathlib.Core.List.{Memᴰ}
 use Rattle.std.proofs.lemmas.Bool.{cond_both}
-use Rattle.protocol.specs.Log.{Event, Began, Ended, Read, Log, asks, retries, opens, before_round, before_reading}
-use Rattle.protocol.specs.Promise.{RightBegan, Good}
+use Rattle.protocol.specs.Log.{Event, Began, Ended, Read, Log, asks, opens, before_round, before_reading}
+use Rattle.protocol.specs.Promise.{Good}
 use Rattle.protocol.specs.Laws.{GoodLogs}
 
 -- what came to pass before the round is in the log; and what came before the reading came before the round

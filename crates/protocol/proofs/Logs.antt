@@ -4,7 +4,7 @@ use Rattle.std.proofs.Common.{◌≡◌, ℕ, suc, ◌<◌, ◌≤◌, max, Bool
 use mathlib.Core.List.Memᴰ
 use mathlib.Core.List.{Memᴰ}
 use Rattle.std.proofs.lemmas.Bool.{cond_both}
-use Rattle.protocol.specs.Log.{Event, Began, Ended, Took, Lost, Asked, Retried, Read, Unsure, Log, took, opens, high, behind, lapsed, before_round}
+use Rattle.protocol.specs.Log.{Event, Began, Ended, Took, Lost, Asked, Retried, Read, Unsure, Log, opens, high, behind, lapsed, before_round}
 use Rattle.protocol.specs.Promise.{Right, Good}
 
 -- the edition of k whose writing ends in it, else 0

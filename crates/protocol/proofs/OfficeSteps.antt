@@ -13,7 +13,7 @@ use Rattle.register.specs.Model as M
 use Rattle.register.proofs.Counting.{within}
 use Rattle.register.proofs.Put.{put_both, put_same}
 use Rattle.register.proofs.Keeps.{has, reach_kept}
-use Rattle.protocol.specs.Message.{office, Message, Take, Took, Ask, Told, Packet, Each, packets}
+use Rattle.protocol.specs.Message.{office, Message, Take, Took, Ask, Told, Each, packets}
 use Rattle.protocol.specs.Step.{quiet, refuse}
 use Rattle.protocol.specs.Step as steps
 use Rattle.protocol.specs.Office.{OfficeDone, no_writing, counted, ended, Desk, last_edition, begin_writing, write_on, resend, office_tick, acknowledge, close, settle, awaits_took, took_on, office_on}

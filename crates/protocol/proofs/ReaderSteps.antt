@@ -18,14 +18,14 @@ use Rattle.register.proofs.Picks.{pick_found, pick_nothing}
 use Rattle.protocol.specs.Message.{Message, Take, Took, Ask, Told, Packet, Each, packets}
 use Rattle.protocol.specs.Step.{Done, quiet, refuse}
 use Rattle.protocol.specs.Step as steps
-use Rattle.protocol.specs.Reader.{ReaderDone, asked, retried, no_reading, heard, undecided, read, unsure, Reader, new_reader, more_rounds, used_up, in_round, begin_round, read_on, decided, ask_again, reader_tick, awaits_told, hear, over, decide, settle_round, told_on, reader_on}
+use Rattle.protocol.specs.Reader.{ReaderDone, asked, retried, no_reading, heard, undecided, unsure, Reader, new_reader, more_rounds, used_up, in_round, begin_round, read_on, decided, ask_again, reader_tick, awaits_told, hear, over, decide, settle_round, told_on, reader_on}
 use Rattle.protocol.specs.Log.{Event, Asked, Retried, Read, Unsure, opens, took, high, before_round, reading, retried_since, lapsed}
-use Rattle.protocol.specs.Promise.{Few, Settled, Busy, RightRead, RightRetried, RightUnsure}
+use Rattle.protocol.specs.Promise.{Few, Settled, Busy, RightRead}
 use Rattle.protocol.specs.System.{reader_event}
 use Rattle.protocol.proofs.Logs.{begun_in, ended_in, ended_most, before_ended, before_high, behind_lapsed, Rights}
 use Rattle.protocol.proofs.Packets.{of_each}
 use Rattle.protocol.proofs.Sound.{SoundReader}
-use Rattle.protocol.proofs.Shows.{ShowsRound, Says, Seen, also, readered, Shows, Followed, AllMean, more_mean, still_mean, nothing_sent, Outside, Outsides, Unsaids, desk_log, warden_log, changes, stays}
+use Rattle.protocol.proofs.Shows.{ShowsRound, Seen, also, readered, Shows, Followed, AllMean, more_mean, still_mean, nothing_sent, Outside, Outsides, Unsaids, desk_log, warden_log, changes, stays}
 
 -- what a reader waits for when it waits
 pub record Awaited (n f i k r : ℕ) (q : Reader) : Type 0 where

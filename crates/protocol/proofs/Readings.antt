@@ -1,6 +1,6 @@
 -- A reading of a note that is not being written comes to its end by the honest alone.
 -- Assumes nothing.
-use Rattle.std.proofs.Common.{◌≡◌, ℕ, suc, ◌+◌, ◌-◌, ◌*◌, ◌<◌, ◌≤◌, Bool, true, false, cond, not, ◌||◌, ◌⊎◌, List, [], ◌∷◌, ◌++◌, sym, refl, ap, ◌∙◌, subst, inl, inr, ⊎_elim, arith}
+use Rattle.std.proofs.Common.{◌≡◌, ℕ, suc, ◌+◌, ◌-◌, ◌*◌, ◌<◌, ◌≤◌, Bool, true, false, cond, ◌||◌, List, [], ◌∷◌, ◌++◌, sym, refl, ap, ◌∙◌, subst, inr, ⊎_elim, arith}
 use mathlib.Core.List.Memᴰ
 use mathlib.Core.List.{Memᴰ}
 use Rattle.std.proofs.lemmas.Bool.{cond-true, cond-false, eq-eqb, leb-true, lt-leb, le-leb}
@@ -14,15 +14,15 @@ use Rattle.register.proofs.Counting.{within, nobody}
 use Rattle.register.proofs.Put.{put_same}
 use Rattle.register.proofs.Stands as Q
 use Rattle.register.proofs.Picks.{pick_found, pick_nothing}
-use Rattle.protocol.specs.Message.{Ask, Packet, Each}
+use Rattle.protocol.specs.Message.{Ask, Each}
 use Rattle.protocol.specs.Step.{Done, quiet, refuse}
 use Rattle.protocol.specs.Step as steps
-use Rattle.protocol.specs.Reader.{ReaderDone, asked, retried, no_reading, Reader, last_round, more_rounds, used_up, in_round, begin_round, read_on, decided, ask_again, reader_tick, decide}
-use Rattle.protocol.specs.Log.{Event, Asked, Retried, Read, Unsure, Log, lapsed, opens, behind}
-use Rattle.protocol.specs.Promise.{Few, Busy}
+use Rattle.protocol.specs.Reader.{ReaderDone, asked, retried, no_reading, Reader, last_round, more_rounds, used_up, in_round, begin_round, decided, ask_again, decide}
+use Rattle.protocol.specs.Log.{Event, Asked, Retried, Read, Unsure, Log, lapsed}
+use Rattle.protocol.specs.Promise.{Few}
 use Rattle.protocol.specs.System.{reader_event, System, by_reader, Run, then}
 use Rattle.protocol.specs.System as S
-use Rattle.protocol.specs.Progress.{Way, here, Decision, sure, doubtful, open_still, Decided, ReadingEnds, ReadingAnswers}
+use Rattle.protocol.specs.Progress.{Way, Decision, sure, doubtful, open_still, Decided, ReadingEnds, ReadingAnswers}
 use Rattle.protocol.proofs.Logs.{behind_lapsed}
 use Rattle.protocol.proofs.Packets.{at_each}
 use Rattle.protocol.proofs.Shows.{Shows, seen, Outside, warden_log}

@@ -1,6 +1,6 @@
 -- A round comes to be told by all but f, and is decided, by the honest alone.
 -- Assumes nothing.
-use Rattle.std.proofs.Common.{◌≡◌, ℕ, suc, ◌+◌, ◌-◌, ◌<◌, ◌≤◌, Bool, true, false, cond, ltb, ◌⊎◌, [], ◌++◌, sym, refl, ap, ◌∙◌, subst, inl, inr, ⊎_elim, arith}
+use Rattle.std.proofs.Common.{◌≡◌, ℕ, suc, ◌+◌, ◌-◌, ◌<◌, ◌≤◌, Bool, true, false, cond, ltb, ◌⊎◌, ◌++◌, sym, refl, ap, ◌∙◌, subst, inl, inr, ⊎_elim, arith}
 use mathlib.Core.List.Memᴰ
 use mathlib.Core.List.{Memᴰ}
 use Rattle.std.proofs.lemmas.Bool.{cond_both, cond-true, cond-false, cases_Bool, eq-eqb, lt-ltb, leb-true, leb-false, ltb-true, ltb-false}
@@ -9,10 +9,10 @@ use Rattle.register.specs.Note.{Note}
 use Rattle.register.specs.Rule.{Replies, reply, answers, Reading, Found, Nothing, pick}
 use Rattle.register.proofs.Put.{put_same}
 use Rattle.register.proofs.Moves.{Nearer, descend, who, fall, enough}
-use Rattle.protocol.specs.Message.{Ask, Told, Packet, Each, packets}
+use Rattle.protocol.specs.Message.{Ask, Told, Packet}
 use Rattle.protocol.specs.Step.{Step, quiet, refuse}
 use Rattle.protocol.specs.Warden.{warden_on}
-use Rattle.protocol.specs.Reader.{ReaderDone, retried, no_reading, heard, undecided, unsure, Reader, begin_round, decided, ask_again, reader_tick, awaits_told, hear, over, decide, settle_round, told_on, reader_on}
+use Rattle.protocol.specs.Reader.{ReaderDone, retried, no_reading, heard, undecided, unsure, Reader, begin_round, decided, ask_again, awaits_told, hear, over, decide, settle_round, told_on}
 use Rattle.protocol.specs.Log.{Log}
 use Rattle.protocol.specs.System.{reader_event, System, by_warden, by_reader}
 use Rattle.protocol.specs.System as S

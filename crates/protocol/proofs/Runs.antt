@@ -1,6 +1,6 @@
 -- A run goes on with what a party does by the rules.
 -- Assumes nothing.
-use Rattle.std.proofs.Common.{◌≡◌, ℕ, ◌*◌, ◌<◌, Bool, List, refl}
+use Rattle.std.proofs.Common.{ℕ, ◌*◌, ◌<◌, Bool, List, refl}
 use Rattle.register.specs.Note.{Note}
 use Rattle.protocol.specs.Message.{office, Message}
 use Rattle.protocol.specs.Warden.{warden_on}

@@ -1,19 +1,18 @@
 -- A writing comes to its end by the honest alone.
 -- Assumes nothing.
-use Rattle.std.proofs.Common.{◌≡◌, ℕ, suc, ◌+◌, ◌*◌, ◌<◌, ◌≤◌, Bool, true, false, not, ◌&&◌, eqb, ltb, ◌⊎◌, List, [], ◌∷◌, ◌++◌, sym, refl, ap, ◌∙◌, subst, inl, inr, ⊎_elim, append_assoc, arith}
+use Rattle.std.proofs.Common.{◌≡◌, ℕ, suc, ◌+◌, ◌<◌, ◌≤◌, Bool, true, false, ltb, ◌⊎◌, List, [], ◌∷◌, ◌++◌, sym, refl, ap, ◌∙◌, subst, inl, inr, ⊎_elim, append_assoc, arith}
 use mathlib.Core.List.Memᴰ
 use mathlib.Core.List.{Memᴰ}
 use Rattle.std.proofs.lemmas.Bool.{cond_both, cond-true, eq-eqb, lt-ltb, leb-false}
-use Rattle.register.specs.Count.{count, put}
+use Rattle.register.specs.Count.{count}
 use Rattle.register.specs.Note.{Note}
 use Rattle.register.specs.Rule.{quorum}
-use Rattle.register.specs.Progress.{missing}
 use Rattle.register.proofs.Put.{put_same}
 use Rattle.register.proofs.Moves.{Nearer, descend, enough, fall, who}
-use Rattle.protocol.specs.Message.{office, Take, Took, Packet, Each, One, packets}
+use Rattle.protocol.specs.Message.{office, Take, Took, Packet, One, packets}
 use Rattle.protocol.specs.Step.{Step, Done, Refused, quiet, refuse}
-use Rattle.protocol.specs.Warden.{WardenDone, taken, take_on, warden_on}
-use Rattle.protocol.specs.Office.{OfficeDone, no_writing, counted, ended, Desk, resend, office_tick, acknowledge, close, settle, awaits_took, took_on, office_on}
+use Rattle.protocol.specs.Warden.{WardenDone, taken, warden_on}
+use Rattle.protocol.specs.Office.{OfficeDone, no_writing, counted, ended, Desk, resend, acknowledge, close, settle, awaits_took, took_on}
 use Rattle.protocol.specs.Log.{Event, Ended, Log}
 use Rattle.protocol.specs.System.{warden_event, System, by_office, by_warden}
 use Rattle.protocol.specs.System as S

@@ -1,6 +1,6 @@
 -- Worked cases, as rows of one table: what comes to the parties of one note, and what each of them comes to.
 -- Assumes nothing.
-use Rattle.std.specs.Prelude.{◌≡◌, ℕ, false, List, [], ◌∷◌, ◌++◌}
+use Rattle.std.specs.Prelude.{◌≡◌, ℕ, List, [], ◌∷◌}
 use Rattle.register.specs.Count.{put}
 use Rattle.register.specs.Note.{Note, none}
 use Rattle.protocol.specs.Message.{office, Message, Take, Took, Told}

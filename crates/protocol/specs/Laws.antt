@@ -1,8 +1,7 @@
 -- What follows from a good log alone.
 -- Assumes nothing.
-use Rattle.std.specs.Prelude.{◌≡◌, ℕ, ◌≤◌, Bool, List, [], ◌∷◌, ◌++◌}
+use Rattle.std.specs.Prelude.{◌≡◌, ℕ, ◌≤◌, Bool, List, ◌∷◌, ◌++◌}
 use mathlib.Core.List.{Memᴰ}
-use Rattle.register.specs.Count.{count}
 use Rattle.protocol.specs.Log.{Began, Ended, Read, Log, before_round, before_reading}
 use Rattle.protocol.specs.Promise.{Few, Good}
 

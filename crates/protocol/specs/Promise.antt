@@ -3,7 +3,7 @@
 use Rattle.std.specs.Prelude.{◌≡◌, ℕ, ◌+◌, ◌<◌, ◌≤◌, Bool, true, ◌||◌, ◌⊎◌, List, [], ◌∷◌, ◌++◌, nat_le}
 use mathlib.Core.List.{Memᴰ}
 use Rattle.register.specs.Count.{count}
-use Rattle.protocol.specs.Log.{Event, Began, Ended, Took, Lost, Asked, Retried, Read, Unsure, Log, high, held, lapsed, before_round, before_reading, reading, retried_since}
+use Rattle.protocol.specs.Log.{Event, Began, Ended, Took, Lost, Asked, Retried, Read, Unsure, Log, high, held, lapsed, before_round, reading, retried_since}
 use Rattle.protocol.specs.Reader.{more_rounds}
 
 -- THE HYPOTHESIS, for each round: no more wardens than f lie, or were behind at some moment of it

@@ -1,9 +1,9 @@
 -- What a call of a party's code promises for every run in which the party is as it was before the call: the run goes on with what the call did, and its log is good.
 -- Assumes nothing.
-use Rattle.std.specs.Prelude.{◌≡◌, ℕ, ◌<◌, Bool, false, List}
+use Rattle.std.specs.Prelude.{◌≡◌, ℕ, ◌<◌, Bool, false}
 use mathlib.Core.List.{Memᴰ}
 use Rattle.register.specs.Note.{Note}
-use Rattle.protocol.specs.Message.{office, Message, Packet}
+use Rattle.protocol.specs.Message.{office, Message}
 use Rattle.protocol.specs.Step.{Step}
 use Rattle.protocol.specs.Warden.{WardenDone}
 use Rattle.protocol.specs.Office.{OfficeDone, Desk}

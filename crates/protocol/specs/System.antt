@@ -9,7 +9,7 @@ use Rattle.protocol.specs.Step.{Step, Outcome, Done, Refused}
 use Rattle.protocol.specs.Warden.{WardenDone, taken, answered, warden_on}
 use Rattle.protocol.specs.Office.{OfficeDone, begun, resent, no_writing, counted, ended, Desk, empty_desk, write_on, office_tick, office_on}
 use Rattle.protocol.specs.Reader.{ReaderDone, asked, asked_again, retried, no_reading, heard, undecided, read, unsure, Reader, new_reader, read_on, reader_tick, reader_on}
-use Rattle.protocol.specs.Log.{Event, Began, Ended, Took, Lost, Asked, Retried, Read, Unsure, Log}
+use Rattle.protocol.specs.Log.{Began, Ended, Took, Lost, Asked, Retried, Read, Unsure, Log}
 use Rattle.protocol.specs.Promise.{Good}
 
 -- WHAT IS SEEN OF A STEP

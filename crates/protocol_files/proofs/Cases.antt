@@ -1,9 +1,9 @@
 -- The worked cases.
 -- Assumes nothing.
-use Rattle.std.proofs.Common.{◌≡◌, ℕ, zero, suc, List, [], ◌∷◌, ◌++◌, take, sym, refl, ap, ◌∙◌, subst, append-nil, lit<, lit≤}
+use Rattle.std.proofs.Common.{◌≡◌, ℕ, zero, suc, List, [], ◌++◌, take, sym, refl, ap, ◌∙◌, append-nil, lit<, lit≤}
 use mathlib.Core.List.Memᴰ
 use Rattle.protocol.proofs.Cases.{worked}
-use Rattle.protocol_tables.specs.Office.{Letter, office_ticks}
+use Rattle.protocol_tables.specs.Office.{office_ticks}
 use Rattle.frames.specs.Format.{Frame}
 use Rattle.frames.specs.Journal.{encode_all, Records, Splits}
 use Rattle.frames.specs.declared.role.Role.TheVariants as roles
@@ -11,7 +11,7 @@ use Rattle.frames.proofs.Files.{once, none_in_nothing}
 use Rattle.protocol_files.specs.Disk.{File, Disk, contents, keep, Cut, left, cut, reverted}
 use Rattle.protocol_files.specs.Records.{office_of}
 use Rattle.protocol_files.specs.System.{Found}
-use Rattle.protocol_files.specs.Cases.{Row, case_f, Worked}
+use Rattle.protocol_files.specs.Cases.{case_f, Worked}
 
 -- nothing was pending, so nothing is lost
 take_none : (k : ℕ) → take {A = ℕ} k [] ≡ []

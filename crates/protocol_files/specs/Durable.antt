@@ -1,6 +1,6 @@
 -- What a party has said is on its file, whatever happens.
 -- Assumes nothing.
-use Rattle.std.specs.Prelude.{◌≡◌, ℕ, ◌*◌, ◌<◌, ◌≤◌, Bool, true, false, ◌⊎◌, List, [], ◌∷◌, ◌++◌}
+use Rattle.std.specs.Prelude.{◌≡◌, ℕ, ◌*◌, ◌<◌, ◌≤◌, Bool, false, ◌⊎◌, List, ◌∷◌, ◌++◌}
 use mathlib.Core.List.{Memᴰ}
 use Rattle.register.specs.Note.{Note}
 use Rattle.protocol.specs.Message.{office, Take, Took, Told, Packet}

@@ -1,12 +1,11 @@
 -- A party with its disk.
 -- Assumes nothing.
-use Rattle.std.specs.Prelude.{ℕ, Bool, true, false, List, [], ◌∷◌, ◌++◌, take}
+use Rattle.std.specs.Prelude.{ℕ, Bool, true, false, List, [], ◌++◌, take}
 use Rattle.register.specs.Note.{Note, none}
 use Rattle.protocol.specs.Message.{Packet, packets}
 use Rattle.protocol.specs.Step.{Step}
 use Rattle.protocol.specs.Warden.{WardenDone}
 use Rattle.protocol_tables.specs.Keep.{Keep, empty}
-use Rattle.protocol_tables.specs.Warden.{warden_keeps}
 use Rattle.protocol_tables.specs.Office.{Office, OfficeStep, empty_office}
 use Rattle.frames.specs.Format.{Frame}
 use Rattle.frames.specs.Journal.{encode_all}

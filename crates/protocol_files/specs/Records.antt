@@ -2,7 +2,7 @@
 -- Assumes nothing.
 use Rattle.std.specs.Prelude.{ℕ, suc, cond, List, [], ◌∷◌, ◌++◌, ◌==◌}
 use Rattle.register.specs.Note.{Note, none}
-use Rattle.protocol.specs.Message.{office, Message, Take, Took, Ask, Told}
+use Rattle.protocol.specs.Message.{office, Take, Took, Ask, Told}
 use Rattle.protocol.specs.Step.{Step}
 use Rattle.protocol.specs.Warden.{WardenDone}
 use Rattle.protocol.specs.Log as events

@@ -3,15 +3,12 @@
 use Rattle.std.specs.Prelude.{◌≡◌, ℕ, ◌*◌, ◌^◌, ◌<◌, ◌≤◌, Bool, true, false, cond, ◌&&◌, ◌||◌, List, [], ◌∷◌, ◌++◌, length, ◌==◌, ◌≢◌}
 use mathlib.Core.List.{Memᴰ}
 use Rattle.register.specs.Count.{put}
-use Rattle.register.specs.Note.{Note}
 use Rattle.protocol.specs.Message.{office, Packet, packets}
-use Rattle.protocol.specs.Step.{Step, Outcome}
-use Rattle.protocol.specs.Office.{OfficeDone, Desk}
+use Rattle.protocol.specs.Step.{Step}
 use Rattle.protocol.specs.Reader.{ReaderDone, Reader, new_reader, read_on, reader_tick, reader_on}
 use Rattle.protocol.specs.Log.{Event, Began, Ended, Took, Lost, Asked, Retried, Read, Unsure, Log}
 use Rattle.protocol.specs.Promise.{Good}
 use Rattle.protocol.specs.System.{office_event, reader_event}
-use Rattle.protocol_tables.specs.Keep.{Keep}
 use Rattle.protocol_tables.specs.Warden.{warden_keeps}
 use Rattle.protocol_tables.specs.Office.{Office, OfficeStep, post, ends, office_writes, office_hears, office_ticks}
 use Rattle.protocol_tables.specs.System as tables
@@ -19,7 +16,7 @@ use Rattle.frames.specs.Format.{Frame}
 use Rattle.frames.specs.Journal.{encode_all, Records, Splits}
 use Rattle.frames.specs.declared.role.Role.{Role}
 use Rattle.frames.specs.declared.role.Role.TheVariants as roles
-use Rattle.protocol_files.specs.Disk.{File, Disk, empty_disk, contents, with_beside, rename, Cut}
+use Rattle.protocol_files.specs.Disk.{File, Disk, contents, with_beside, rename, Cut}
 use Rattle.protocol_files.specs.Records.{warden_of, office_of, took_all, began_all}
 use Rattle.protocol_files.specs.Nodes.{Node, Warden, new_warden, new_office, with_disk, fallen, opened, stepped, flushed, opened_warden, recorded, stopped}
 

@@ -1,6 +1,6 @@
 -- What the honest can do without bounds they can do with tables; so a writing and a reading come to an end.
 -- Assumes nothing.
-use Rattle.std.proofs.Common.{◌≡◌, ℕ, ◌+◌, ◌≤◌, Bool, true, false, cond, not, ◌&&◌, ◌||◌, eqb, ltb, List, [], ◌∷◌, ◌++◌, map, sym, refl, ap, ◌∙◌, subst, ⊎_elim}
+use Rattle.std.proofs.Common.{◌≡◌, ℕ, ◌+◌, ◌≤◌, Bool, true, eqb, ltb, List, [], ◌∷◌, ◌++◌, map, sym, refl, ap, ◌∙◌, subst, ⊎_elim}
 use mathlib.Core.List.Memᴰ
 use mathlib.Core.List.{Memᴰ}
 use borrow.Author.Tests.{clash}
@@ -14,7 +14,6 @@ use Rattle.protocol.specs.Step.{Step, Done, Refused, quiet, refuse}
 use Rattle.protocol.specs.Warden.{WardenDone, taken, take_on, warden_on}
 use Rattle.protocol.specs.Office.{OfficeDone, no_writing, counted, ended, Desk, resend, office_tick, acknowledge, close, settle, awaits_took, took_on, office_on}
 use Rattle.protocol.specs.Reader.{ReaderDone, Reader, read_on, reader_tick, reader_on}
-use Rattle.protocol.specs.Log.{Event, Read, Log}
 use Rattle.protocol.specs.System as plain
 use Rattle.protocol.specs.Progress.{Decision, sure, doubtful, open_still, Decided}
 use Rattle.protocol.specs.Progress as ways

@@ -1,11 +1,10 @@
 -- Lists in which every number stands once, and tables that are counted by them.
 -- Assumes nothing.
-use Rattle.std.proofs.Common.{◌≡◌, ℕ, suc, ◌<◌, ◌≤◌, Bool, true, false, cond, eqb, ◌⊎◌, List, [], ◌∷◌, length, sym, refl, ◌∙◌, inl, inr, ⊎_elim, arith}
+use Rattle.std.proofs.Common.{◌≡◌, ℕ, ◌<◌, ◌≤◌, true, false, eqb, List, [], ◌∷◌, length, sym, refl, ◌∙◌, ⊎_elim, arith}
 use mathlib.Core.List.Memᴰ
 use mathlib.Core.List.{Memᴰ}
 use borrow.Author.Tests.{clash}
-use Rattle.std.proofs.lemmas.Bool.{cond_both, cases_eq, cases_Bool, eqb-true, eq-eqb, ne_eqb}
-use Rattle.register.specs.Count.{put}
+use Rattle.std.proofs.lemmas.Bool.{cond_both, cases_eq, cases_Bool, eq-eqb, ne_eqb}
 use Rattle.protocol_tables.specs.Keep.{Keep, empty, store}
 use Rattle.protocol_tables.specs.Office.{without}
 use Rattle.protocol_tables.proofs.Orders.{in_without}

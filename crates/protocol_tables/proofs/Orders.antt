@@ -1,17 +1,16 @@
 -- The writings under way are those of the notes that are being written.
 -- Assumes nothing.
-use Rattle.std.proofs.Common.{◌≡◌, ℕ, Bool, true, false, cond, not, ◌&&◌, ◌||◌, eqb, ltb, leb, List, [], ◌∷◌, ◌++◌, sym, refl, ap, ◌∙◌, ⊎_elim, arith}
+use Rattle.std.proofs.Common.{◌≡◌, ℕ, true, false, not, ◌&&◌, ◌||◌, eqb, ltb, leb, List, [], ◌∷◌, ◌++◌, sym, refl, ◌∙◌, ⊎_elim}
 use mathlib.Core.List.Memᴰ
 use mathlib.Core.List.{Memᴰ}
 use borrow.Author.Tests.{clash}
 use Rattle.std.proofs.lemmas.Bool.{cond_both, cases_eq, and_parts, eq-eqb, ne_eqb, eqb-true}
 use Rattle.register.specs.Count.{count, put}
 use Rattle.register.specs.Rule.{quorum}
-use Rattle.register.proofs.Put.{put_all, put_same}
 use Rattle.protocol.specs.Message.{Message, Take, Took, Ask, Told}
 use Rattle.protocol.specs.Step.{Step, Refused, quiet, refuse}
-use Rattle.protocol.specs.Office.{OfficeDone, counted, ended, Desk, last_edition, begin_writing, write_on, acknowledge, close, settle, awaits_took, took_on, office_on}
-use Rattle.protocol_tables.specs.Keep.{Keep, room, store}
+use Rattle.protocol.specs.Office.{OfficeDone, counted, ended, Desk, last_edition, begin_writing, acknowledge, close, settle, awaits_took, took_on}
+use Rattle.protocol_tables.specs.Keep.{room, store}
 use Rattle.protocol_tables.specs.Office.{Office, OfficeStep, empty_office, leave, without, keep_writing, office_writes, keep_counting, office_hears}
 
 pub record Ordered (o : Office) : Type 0 where

@@ -1,6 +1,6 @@
 -- Every run with tables is a run without bounds.
 -- Assumes nothing.
-use Rattle.std.proofs.Common.{◌≡◌, ℕ, Bool, true, false, cond, not, ◌&&◌, ◌||◌, eqb, ltb, leb, List, [], ◌∷◌, ◌++◌, map, sym, refl, ap, ◌∙◌, subst}
+use Rattle.std.proofs.Common.{◌≡◌, ℕ, Bool, true, ◌||◌, eqb, ltb, leb, List, [], ◌∷◌, ◌++◌, map, sym, refl, ap, ◌∙◌, subst}
 use mathlib.Core.Path.{fun_ext}
 use mathlib.Core.List.{Memᴰ}
 use Rattle.std.proofs.lemmas.Bool.{cond_both, cond-true}
@@ -11,14 +11,14 @@ use Rattle.register.proofs.Put.{put_both, put_same}
 use Rattle.protocol.specs.Message.{office, Message, Take, Took, Ask, Told, Packet, One, Each, packets}
 use Rattle.protocol.specs.Step.{Step, Done, Refused, quiet, refuse}
 use Rattle.protocol.specs.Warden.{WardenDone, taken, take_on, warden_on}
-use Rattle.protocol.specs.Office.{OfficeDone, no_writing, counted, ended, Desk, last_edition, begin_writing, write_on, resend, office_tick, acknowledge, close, settle, awaits_took, took_on, office_on}
+use Rattle.protocol.specs.Office.{OfficeDone, no_writing, counted, ended, Desk, last_edition, begin_writing, resend, acknowledge, close, settle, awaits_took, took_on}
 use Rattle.protocol.specs.Log.{Log}
 use Rattle.protocol.specs.System as plain
 use Rattle.protocol.proofs.Ways.{put_own, own_store}
 use Rattle.protocol.proofs.Follows as F
 use Rattle.protocol_tables.specs.Keep.{Keep, empty, room, store}
 use Rattle.protocol_tables.specs.Warden.{keep_note, warden_keeps}
-use Rattle.protocol_tables.specs.Office.{Office, OfficeStep, post, leave, keep_writing, office_writes, keep_counting, office_hears, again, office_ticks}
+use Rattle.protocol_tables.specs.Office.{OfficeStep, post, leave, keep_writing, office_writes, keep_counting, office_hears, again}
 use Rattle.protocol_tables.specs.System.{System, by_office, by_warden, unbounded, Move, writes, office_hear, warden_hear, reads, reader_ticks, reader_hears, office_restarts, reader_restarts, lies, loses, Run, begin, then, Refines, Holds}
 use Rattle.protocol_tables.specs.System as T
 use Rattle.protocol_tables.proofs.Orders.{Ordered, empty_ordered, started, write_ordered, hear_ordered}

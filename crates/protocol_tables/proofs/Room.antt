@@ -1,6 +1,6 @@
 -- A warden has no notes but those that the office has, so it always has room.
 -- Assumes nothing.
-use Rattle.std.proofs.Common.{◌≡◌, ℕ, suc, ◌-◌, ◌<◌, ◌≤◌, Bool, true, false, cond, not, ◌&&◌, ◌||◌, eqb, ltb, leb, ◌⊎◌, List, [], ◌∷◌, ◌++◌, map, sym, refl, ap, ◌∙◌, inl, inr, ⊎_elim, arith}
+use Rattle.std.proofs.Common.{◌≡◌, ℕ, ◌-◌, ◌≤◌, Bool, true, false, cond, not, ◌&&◌, ◌||◌, eqb, ltb, leb, ◌⊎◌, List, [], ◌∷◌, ◌++◌, map, sym, refl, ap, ◌∙◌, inl, inr, ⊎_elim, arith}
 use mathlib.Core.List.Memᴰ
 use mathlib.Core.List.{Memᴰ}
 use borrow.Author.Tests.{clash}
@@ -12,8 +12,8 @@ use Rattle.register.proofs.Put.{put_all}
 use Rattle.protocol.specs.Message.{office, Message, Take, Took, Ask, Told, Packet, Sends, One, Each, packets}
 use Rattle.protocol.specs.Message as words
 use Rattle.protocol.specs.Step.{Step, Done, Refused, quiet, refuse}
-use Rattle.protocol.specs.Warden.{WardenDone, taken, take_on, warden_on}
-use Rattle.protocol.specs.Office.{OfficeDone, counted, ended, Desk, empty_desk, last_edition, begin_writing, acknowledge, close, settle, awaits_took, took_on, office_on}
+use Rattle.protocol.specs.Warden.{WardenDone, taken, take_on}
+use Rattle.protocol.specs.Office.{OfficeDone, counted, ended, Desk, empty_desk, last_edition, begin_writing, acknowledge, close, settle, awaits_took, took_on}
 use Rattle.protocol.specs.Reader.{ReaderDone, asked, retried, no_reading, heard, undecided, unsure, Reader, more_rounds, used_up, in_round, begin_round, read_on, decided, ask_again, reader_tick, awaits_told, hear, over, decide, settle_round, told_on, reader_on}
 use Rattle.protocol.specs.Log as L
 use Rattle.protocol.proofs.Packets.{of_each}

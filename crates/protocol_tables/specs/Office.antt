@@ -1,6 +1,6 @@
 -- The office with many notes.
 -- Assumes nothing.
-use Rattle.std.specs.Prelude.{ℕ, Bool, true, false, cond, not, ◌&&◌, List, [], ◌∷◌, ◌++◌, map, ◌==◌}
+use Rattle.std.specs.Prelude.{ℕ, Bool, true, false, cond, ◌&&◌, List, [], ◌∷◌, ◌++◌, map, ◌==◌}
 use Rattle.protocol.specs.Message.{office, Message, Take, Packet, Sends, Each, packets}
 use Rattle.protocol.specs.Step.{Outcome, Done, Refused, Step}
 use Rattle.protocol.specs.Office.{OfficeDone, begun, resent, no_writing, counted, ended, Desk, empty_desk, close, write_on, office_on}

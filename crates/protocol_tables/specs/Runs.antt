@@ -3,7 +3,7 @@
 use Rattle.std.specs.Prelude.{◌≡◌, ℕ, ◌<◌, Bool, false}
 use mathlib.Core.List.{Memᴰ}
 use Rattle.register.specs.Note.{Note}
-use Rattle.protocol.specs.Message.{office, Message, Packet}
+use Rattle.protocol.specs.Message.{office, Message}
 use Rattle.protocol.specs.Step.{Step}
 use Rattle.protocol.specs.Warden.{WardenDone}
 use Rattle.protocol.specs.Reader.{ReaderDone, Reader}

@@ -7,7 +7,6 @@ use Rattle.register.specs.Note.{Note, none}
 use Rattle.protocol.specs.Message.{office, Packet, packets}
 use Rattle.protocol.specs.Step.{Step}
 use Rattle.protocol.specs.Warden.{WardenDone}
-use Rattle.protocol.specs.Office.{Desk}
 use Rattle.protocol.specs.Reader.{ReaderDone, Reader, new_reader, read_on, reader_tick, reader_on}
 use Rattle.protocol.specs.Log.{Lost, Log}
 use Rattle.protocol.specs.Promise.{Good}

@@ -3,7 +3,7 @@
 use Rattle.std.specs.Prelude.{◌≡◌, ℕ, ◌+◌, ◌*◌, ◌<◌, ◌≤◌, Bool, true, ◌||◌, ◌⊎◌, nat_le}
 use Rattle.register.specs.Count.{count}
 use Rattle.register.specs.Note.{Note, none}
-use Rattle.register.specs.Rule.{Replies, answers, IsRead, Reading, Found, Nothing, pick}
+use Rattle.register.specs.Rule.{Replies, answers, IsRead, Found, Nothing, pick}
 use Rattle.register.specs.Model.{Office, note, Round, World, Reach}
 
 -- THE COUNTING LEMMA, with its four numbers apart: of n wardens at least h were heard, all but f hold something, and no more than b are faulty.

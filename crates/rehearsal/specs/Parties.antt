@@ -1,6 +1,6 @@
 -- Who takes part, by number.
 -- Assumes nothing.
-use Rattle.std.specs.Prelude.{◌≡◌, ℕ, ◌+◌, ◌<◌, ◌≤◌, ◌⊎◌}
+use Rattle.std.specs.Prelude.{ℕ, ◌+◌, ◌<◌, ◌≤◌, ◌⊎◌}
 use Rattle.rehearsal.specs.declared.party.Party.{Party}
 use Rattle.rehearsal.specs.declared.party.Party.TheVariants.{Office, Warden, Reader}
 

@@ -11,7 +11,7 @@ use std::{env, io};
 /// The longest line that is read.
 const LONGEST_LINE: usize = 4096;
 
-const VERSION: &str = "rehearse 0.1.0\nrattle-kit-8b logic 7f726aa041520687\n";
+const VERSION: &str = "rehearse 0.1.0\nrattle-kit-13f logic dac8208d650f15bf\n";
 
 const USAGE: &str = "usage: rehearse < SCRIPT
 Plays a script of notes, their wardens and their readers, and prints what happens.

@@ -1,9 +1,9 @@
 -- What a failed call leaves of a disk in memory: the disk as it was, but for what stands beside.
 -- Assumes nothing.
-use Rattle.std.proofs.Common.{◌≡◌, ℕ, true, false, List, length, take, sym, refl, ap, ◌∙◌, arith}
+use Rattle.std.proofs.Common.{◌≡◌, ℕ, false, List, length, sym, refl, ap, ◌∙◌, arith}
 use borrow.Author.Tests.{clash}
 use Rattle.std.proofs.lemmas.List.{take_all}
-use Rattle.protocol_files.specs.Disk.{File, Disk, keep, with_beside}
+use Rattle.protocol_files.specs.Disk.{File, Disk, with_beside}
 use Rattle.storage.specs.Changes.{Shortened, Scribbled}
 use Rattle.storage.specs.Memories.{Known}
 use Rattle.storage.specs.declared.condition.Condition.{Condition}

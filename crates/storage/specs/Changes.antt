@@ -1,8 +1,8 @@
 -- Words of the contracts of a storage: what becomes of its disk.
 -- Assumes nothing.
-use Rattle.std.specs.Prelude.{◌≡◌, ℕ, ◌⊎◌, List, ◌∷◌, ◌++◌}
+use Rattle.std.specs.Prelude.{◌≡◌, ℕ, ◌⊎◌}
 use Rattle.protocol.specs.Message.{Message}
-use Rattle.protocol_files.specs.Disk.{File, Disk, keep, with_beside, rename, cut_back}
+use Rattle.protocol_files.specs.Disk.{File, Disk, keep, with_beside}
 
 -- what is sent: to whom, about which note, and what
 pub record Parcel : Type 0 where

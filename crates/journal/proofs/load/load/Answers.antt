@@ -1,5 +1,4 @@
-use Rattle.std.proofs.Common.{◌≡◌, ℕ, ◌+◌, List, take, drop, vec_items, sym, refl, ap, ◌∙◌, subst, arith}
-use Rattle.protocol_files.specs.Disk.{Disk, contents}
+use Rattle.std.proofs.Common.{ℕ, List, vec_items, sym, refl, ◌∙◌, subst}
 use Rattle.journal.specs.Replays.{ScannedAll, Loading}
 use Rattle.journal.proofs.Loads.{begin, onward, ended}
 use Rattle.journal.proofs.load.load.Goals as goal

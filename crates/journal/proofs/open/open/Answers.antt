@@ -1,7 +1,6 @@
-use Rattle.std.proofs.Common.{◌≡◌, ◌≤◌, true, length, sym, refl, ap, ◌∙◌, subst}
-use Rattle.protocol_files.specs.Disk.{Disk, blank, contents, with_beside, cut_back, sync_folder, sync, Cut}
+use Rattle.std.proofs.Common.{◌≤◌, true, length, sym, refl, ap, ◌∙◌, subst}
+use Rattle.protocol_files.specs.Disk.{Disk, blank, contents, with_beside, cut_back, sync_folder, Cut}
 use Rattle.storage.specs.declared.condition.Condition.{Condition}
-use Rattle.journal.specs.Openings.{Sound, Unopened, opened_disk}
 use Rattle.journal.proofs.Cuts.{sound_short, scribbled_left, cut_left, perhaps_left, shortened_left, settled}
 use Rattle.std.proofs.lemmas.Result.{err_from_is_err_and}
 use Rattle.journal.proofs.Ends.{found}

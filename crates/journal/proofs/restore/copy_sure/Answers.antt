@@ -1,6 +1,6 @@
-use Rattle.std.proofs.Common.{◌≡◌, ℕ, ◌+◌, ◌-◌, ◌≤◌, min, List, [], ◌++◌, length, take, drop, vec_items, sym, refl, ap, ◌∙◌, subst, arith, length-append}
+use Rattle.std.proofs.Common.{◌≡◌, ℕ, ◌+◌, ◌-◌, ◌≤◌, min, List, [], ◌++◌, length, take, vec_items, sym, ap, ◌∙◌, subst, arith, length-append}
 use Rattle.std.proofs.lemmas.List.{take_at}
-use Rattle.protocol_files.specs.Disk.{Disk, contents, with_beside}
+use Rattle.protocol_files.specs.Disk.{contents, with_beside}
 use Rattle.journal.proofs.Copies.{window}
 use Rattle.journal.proofs.restore.copy_sure.Goals as goal
 

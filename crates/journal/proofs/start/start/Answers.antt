@@ -1,4 +1,4 @@
-use Rattle.std.proofs.Common.{◌≡◌, ℕ, Bool, true, false, List, MatchBool, sym, refl, ap, ◌∙◌, subst}
+use Rattle.std.proofs.Common.{◌≡◌, ℕ, Bool, true, false, List, MatchBool, sym, ap, ◌∙◌, subst}
 use Rattle.frames.specs.Journal.{Splits}
 use Rattle.protocol_files.specs.Disk.{contents}
 use Rattle.storage.specs.declared.condition.Condition.{Condition}

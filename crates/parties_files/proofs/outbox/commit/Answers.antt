@@ -1,4 +1,4 @@
-use Rattle.std.proofs.Common.{◌≡◌, ℕ, true, List, [], ◌++◌, take, sym, refl, ap, ◌∙◌, subst}
+use Rattle.std.proofs.Common.{◌≡◌, ℕ, List, [], ◌++◌, take, sym, ap, ◌∙◌, subst}
 use Rattle.protocol_files.specs.Disk.{Disk, keep, append}
 use Rattle.parties_files.proofs.Conditions.{synced_of}
 use Rattle.parties_files.proofs.outbox.commit.Goals as goal

@@ -1,4 +1,4 @@
-use Rattle.std.proofs.Common.{◌≡◌, ℕ, ◌-◌, ◌<◌, ◌≤◌, map, length, get_or, vec_items, vec_len}
+use Rattle.std.proofs.Common.{◌≡◌, ℕ, ◌-◌, ◌<◌, ◌≤◌, map, get_or, vec_items, vec_len}
 use Rattle.protocol_tables.specs.Office.{without}
 use Rattle.parties_tables.specs.Offices.{number_of}
 use Rattle.parties_tables.proofs.office.remove.Given as goal

@@ -1,4 +1,4 @@
-use Rattle.std.proofs.Common.{sym, ap, arith}
+use Rattle.std.proofs.Common.{sym, arith}
 use Rattle.std.proofs.lemmas.List.{get_or-map}
 use Rattle.register.specs.Note.{none}
 use Rattle.notes.specs.Views.{note_of}

@@ -1,15 +1,12 @@
-use Rattle.std.proofs.Common.{◌≡◌, ℕ, Bool, true, false, List, [], ◌∷◌, ◌++◌, take, sym, refl, ap, ◌∙◌, subst, append-nil}
-use Rattle.protocol.specs.Step.{Outcome}
-use Rattle.protocol.specs.Office.{OfficeDone}
+use Rattle.std.proofs.Common.{ℕ, List, [], ◌++◌, take, sym, refl, ap, ◌∙◌, subst, append-nil}
 use Rattle.notes.specs.Views.{bytes_of}
 use Rattle.parties.specs.Views.{office_outcome}
 use Rattle.parties.specs.declared.step.OfficeOutcome.{OfficeOutcome}
 use Rattle.protocol_tables.specs.Office as rules
 use Rattle.protocol_tables.specs.Office.{Letter, OfficeStep, begins, ends, office_writes}
-use Rattle.frames.specs.Format.{Frame, Begun, encode}
+use Rattle.frames.specs.Format.{Begun, encode}
 use Rattle.frames.specs.Journal.{encode_all}
-use Rattle.protocol_files.specs.Disk.{Disk, append}
-use Rattle.protocol_files.specs.Records.{office_records}
+use Rattle.protocol_files.specs.Disk.{append}
 use Rattle.parties_files.proofs.Conditions.{synced_of}
 use Rattle.parties_files.specs.Offices.{desks_of, parcels, stopped}
 use Rattle.parties_files.proofs.OfficeSteps.{writes_end_nothing, silent_unless_begun, not_begun, none_recorded, begun_recorded, untouched, one_record, recorded_node}

@@ -1,14 +1,11 @@
-use Rattle.std.proofs.Common.{◌≡◌, ℕ, Bool, true, false, List, [], ◌∷◌, take, sym, refl, ap, ◌∙◌, subst}
-use Rattle.protocol.specs.Step.{Outcome}
-use Rattle.protocol.specs.Office.{OfficeDone}
+use Rattle.std.proofs.Common.{ℕ, List, [], take, sym, refl, ap, ◌∙◌, subst}
 use Rattle.parties.specs.Views.{message_of, office_outcome}
 use Rattle.parties.specs.declared.step.OfficeOutcome.{OfficeOutcome}
 use Rattle.protocol_tables.specs.Office as rules
 use Rattle.protocol_tables.specs.Office.{OfficeStep, begins, ends, office_hears}
-use Rattle.frames.specs.Format.{Frame, Ended, encode}
+use Rattle.frames.specs.Format.{Ended, encode}
 use Rattle.frames.specs.Journal.{encode_all}
-use Rattle.protocol_files.specs.Disk.{Disk, append}
-use Rattle.protocol_files.specs.Records.{office_records}
+use Rattle.protocol_files.specs.Disk.{append}
 use Rattle.parties_files.proofs.Conditions.{synced_of}
 use Rattle.parties_files.specs.Offices.{desks_of, stopped}
 use Rattle.parties_files.proofs.OfficeSteps.{hears_begin_nothing, not_ended, none_recorded, ended_recorded, untouched, one_record, recorded_node}

@@ -1,4 +1,4 @@
-use Rattle.std.proofs.Common.{◌≡◌, ℕ, List, [], ◌++◌, sym, refl, ap, ◌∙◌, subst}
+use Rattle.std.proofs.Common.{ℕ, List, ◌++◌, refl, ap, ◌∙◌, subst}
 use Rattle.notes.specs.Views.{note_of}
 use Rattle.frames.specs.Format.{Begun, encode}
 use Rattle.protocol.specs.Office.{Desk}

@@ -1,4 +1,4 @@
-use Rattle.std.proofs.Common.{◌≡◌, ℕ, List, [], ◌++◌, sym, refl, ap, ◌∙◌, subst}
+use Rattle.std.proofs.Common.{ℕ, List, ◌++◌, refl, ap, ◌∙◌, subst}
 use Rattle.frames.specs.Format.{Ended, encode}
 use Rattle.protocol.specs.Office.{Desk}
 use Rattle.parties_files.specs.Commits.{Commits}

@@ -1,4 +1,4 @@
-use Rattle.std.proofs.Common.{◌≡◌, sym, refl, ap, ◌∙◌}
+use Rattle.std.proofs.Common.{refl, ap, ◌∙◌}
 use Rattle.protocol_tables.specs.Office as rules
 use Rattle.protocol_files.specs.Records.{office_replays_all}
 use Rattle.parties_files.proofs.OfficeReplays.{replayed_all}

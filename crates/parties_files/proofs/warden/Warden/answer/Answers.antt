@@ -1,6 +1,6 @@
-use Rattle.std.proofs.Common.{◌≡◌, ℕ, List, [], ◌∷◌, ◌++◌, map, vec_items, sym, refl, ap, ◌∙◌}
+use Rattle.std.proofs.Common.{◌++◌, map, vec_items, sym, refl, ap, ◌∙◌}
 use Rattle.std.proofs.lemmas.List.{map_push}
-use Rattle.protocol.specs.Message.{Packet, packets}
+use Rattle.protocol.specs.Message.{packets}
 use Rattle.parties.specs.Views.{sends_of}
 use Rattle.parties.specs.declared.message.Sends.{Sends}
 use Rattle.parties_files.specs.Wardens.{packet_of}

@@ -1,4 +1,4 @@
-use Rattle.std.proofs.Common.{◌≡◌, sym, refl, ap, ◌∙◌}
+use Rattle.std.proofs.Common.{refl, ap, ◌∙◌}
 use Rattle.register.specs.Note.{Note}
 use Rattle.protocol_tables.specs.Keep.{Keep}
 use Rattle.protocol_files.specs.Records.{warden_replays_all}

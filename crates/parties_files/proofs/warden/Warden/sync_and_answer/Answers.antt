@@ -1,4 +1,4 @@
-use Rattle.std.proofs.Common.{◌≡◌, sym, refl, ap, ◌∙◌, subst, inl, inr, append-nil}
+use Rattle.std.proofs.Common.{sym, ◌∙◌, subst, inl, inr, append-nil}
 use Rattle.protocol_files.specs.Disk.{Disk, left, Cut}
 use Rattle.parties_files.proofs.warden.Warden.sync_and_answer.Goals as goal
 

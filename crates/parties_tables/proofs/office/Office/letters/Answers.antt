@@ -1,4 +1,4 @@
-use Rattle.std.proofs.Common.{◌≡◌, map, vec_items, sym, ap, ◌∙◌, arith}
+use Rattle.std.proofs.Common.{map, vec_items, sym, ap, ◌∙◌, arith}
 use mathlib.Core.List.{map-map}
 use Rattle.std.proofs.lemmas.List.{take_all}
 use Rattle.notes.specs.declared.ids.NoteId.{NoteId}

@@ -1,4 +1,4 @@
-use Rattle.std.proofs.Common.{◌≡◌, List, sym, subst}
+use Rattle.std.proofs.Common.{List, sym, subst}
 use Rattle.protocol_tables.specs.Office.{Letter, office_ticks}
 use Rattle.protocol_tables.specs.Runs.{OfficeTicks}
 use Rattle.protocol_tables.proofs.Runs.{ticking_runs}

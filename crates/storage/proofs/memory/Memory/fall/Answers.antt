@@ -1,4 +1,4 @@
-use Rattle.std.proofs.Common.{◌≡◌, ℕ, [], sym, refl, ap, ◌∙◌, subst, ⊎_elim}
+use Rattle.std.proofs.Common.{◌≡◌, ℕ, [], sym, refl, ◌∙◌, subst, ⊎_elim}
 use Rattle.protocol_files.specs.Disk.{File, Disk, keep, Cut, left, cut, reverted}
 use Rattle.storage.specs.Memories.{disk_of, Reverts}
 use Rattle.storage.proofs.Unchanged.{shortened_none}

@@ -1,4 +1,4 @@
-use Rattle.std.proofs.Common.{◌≡◌, List, [], ◌∷◌, map, vec_items, sym, refl, ap, ◌∙◌, subst, inr}
+use Rattle.std.proofs.Common.{List, [], ◌∷◌, map, vec_items, sym, refl, ap, ◌∙◌, subst, inr}
 use mathlib.Core.List.Memᴰ
 use mathlib.Core.List.{Memᴰ}
 use Rattle.std.proofs.lemmas.List.{map-append}

@@ -1,4 +1,4 @@
-use Rattle.std.proofs.Common.{◌≡◌, length, vec_items, sym, refl, ap, ◌∙◌, arith, length-append}
+use Rattle.std.proofs.Common.{length, vec_items, ap, ◌∙◌, arith, length-append}
 use Rattle.protocol_files.specs.Disk.{Disk, contents}
 use Rattle.storage.specs.Memories.{disk_of}
 use Rattle.storage.proofs.Unchanged.{same}

@@ -1,6 +1,6 @@
 use Rattle.std.proofs.Common.{ap, ◌∙◌}
-use Rattle.protocol_files.specs.Disk.{File, Disk}
-use Rattle.storage.specs.Memories.{file_of, disk_of}
+use Rattle.protocol_files.specs.Disk.{File}
+use Rattle.storage.specs.Memories.{disk_of}
 use Rattle.storage.proofs.Unchanged.{still}
 use Rattle.storage.proofs.memory.MemoryStorage.sync.Goals as goal
 
