@@ -6,6 +6,7 @@ ghost use Rattle.std.specs.Prelude.{◌≡◌, ℕ, ◌<◌, ◌≤◌, length, 
 use rehearsal::rehearsal::Rehearsal;
 use std::alloc::AllocError;
 use std::io::{BufRead, BufReader, Stdin, Write};
+use std::process::ExitCode;
 use std::{env, io};
 
 /// The longest line that is read.
@@ -109,20 +110,22 @@ fn rehearse(rt: &HostRuntime) -> io::Result<()> {
     out.flush()
 }
 
-fn main(rt: HostRuntime) -> io::Result<()> {
+fn main(rt: HostRuntime) -> io::Result<ExitCode> {
     let mut args = env::args(&rt)?;
     let _own = args.next();
     let Some(first) = args.next() else {
-        return rehearse(&rt);
+        rehearse(&rt)?;
+        return Ok(ExitCode::SUCCESS);
     };
     match first.as_str() {
-        "--help" if args.next().is_none() => rt.print(USAGE),
-        "--version" if args.next().is_none() => rt.print(VERSION),
+        "--help" if args.next().is_none() => rt.print(USAGE)?,
+        "--version" if args.next().is_none() => rt.print(VERSION)?,
         _ => {
             eprintln!(rt;
                 "rehearse takes --help, --version or nothing, and then reads its script from the standard input."
             )?;
-            Err(io::Error::from(io::ErrorKind::InvalidInput))
+            return Ok(ExitCode::FAILURE);
         }
     }
+    Ok(ExitCode::SUCCESS)
 }
