@@ -1,11 +1,11 @@
 -- What is found among numbers in rising order, before and after something is put there.
 -- Assumes nothing.
-use Rattle.std.proofs.Common.{◌≡◌, ℕ, Bool, false, cond, zero, suc, ◌+◌, ◌-◌, ◌<◌, ◌≤◌, true, eqb, List, [], ◌∷◌, length, get_or, set, is_some, Some, None, Ok, Err, sym, refl, ap, ◌∙◌, ⊎_elim, arith}
-use mathlib.Core.Path.{fun_ext}
+use Rattle.std.proofs.Common.{◌≡◌, ℕ, false, zero, suc, ◌+◌, ◌-◌, ◌<◌, ◌≤◌, true, eqb, List, [], ◌∷◌, length, get_or, set, is_some, Some, None, Ok, Err, sym, refl, ap, ◌∙◌, ⊎_elim, arith}
 use Rattle.std.specs.List.{insert}
 use Rattle.std.proofs.lemmas.List.Edits.{length-insert, get_or-insert_below, get_or-insert_at, get_or-insert_above}
 use Rattle.std.proofs.lemmas.Bool.{both_ways, cond-true, cond-false, eqb-true, eq-eqb, ne_eqb, cases_lt, cases_order}
 use Rattle.register.specs.Count.{put}
+use Rattle.register.proofs.Put.{put_twice, put_swapped}
 use Rattle.notes_table.specs.Places.{Rising, Finds, look}
 
 -- k is met at the place i, and not before
@@ -37,23 +37,10 @@ missing ns k i (within, below, above) = nowhere ns k (λ j h is. ⊎_elim (λ l.
 
 pub look_none : {A : Type 0} → look {A = A} [] [] ≡ (λ _. None)
 unfolding look
-look_none = fun_ext (λ k. refl)
+look_none = refl
 
--- the value at two tests, the first of which stands for the second
-both : {B : Type 0} (t : Bool) (w v r : B) → cond t w r ≡ cond t w (cond t v r)
-both true w v r = refl
-both false w v r = refl
-
--- two tests that do not both pass can be made in either order
-either : {B : Type 0} (s t : Bool) (w v r : B) → (s ≡ true → t ≡ true → ⊥) → cond t v (cond s w r) ≡ cond s w (cond t v r)
-either true true w v r apart = absurd (apart refl refl)
-either true false w v r apart = refl
-either false true w v r apart = refl
-either false false w v r apart = refl
-
--- the number of another place is not met together with k
-not_both : (k n q : ℕ) → eqb k n ≡ false → eqb q k ≡ true → eqb q n ≡ true → ⊥
-not_both k n q apart one other = both_ways (eqb k n) apart (eq-eqb k n (sym (eqb-true q k one) ∙ eqb-true q n other))
+apart : (k n : ℕ) → eqb k n ≡ false → n ≡ k → ⊥
+apart k n other same = both_ways (eqb k n) other (eq-eqb k n (sym same))
 
 look_hit : {A : Type 0} (k : ℕ) (d : A) (ns : List ℕ) (ys : List A) (i : ℕ) → Hit k ns i → i < length ys → look ns ys k ≡ Some (get_or ys i d)
 unfolding look
@@ -68,23 +55,21 @@ look_missing k [] ys h = refl
 look_missing k (n ∷ ns) [] h = refl
 look_missing k (n ∷ ns) (y ∷ ys) h = cond-false (eqb k n) (Some y) (look ns ys k) h.0 ∙ look_missing k ns ys h.1
 
-look_changed : {A : Type 0} (k q : ℕ) (w : A) (ns : List ℕ) (ys : List A) (i : ℕ) → Hit k ns i → i < length ys → look ns (set ys i w) q ≡ put k (Some w) (look ns ys) q
+look_changed : {A : Type 0} (k : ℕ) (w : A) (ns : List ℕ) (ys : List A) (i : ℕ) → Hit k ns i → i < length ys → look ns (set ys i w) ≡ put k (Some w) (look ns ys)
 unfolding look
-look_changed k q w [] ys i h l = absurd h
-look_changed k q w (n ∷ ns) [] i h l = absurd (omega arith)
-look_changed k q w (n ∷ ns) (y ∷ ys) zero h l = rw (eqb-true k n h) (both (eqb q n) (Some w) (Some y) (look ns ys q))
-look_changed k q w (n ∷ ns) (y ∷ ys) (suc i) h l =
-    ap (cond (eqb q n) (Some y)) (look_changed k q w ns ys i h.1 (omega arith))
-    ∙ either (eqb q k) (eqb q n) (Some w) (Some y) (look ns ys q) (not_both k n q h.0)
+look_changed k w [] ys i h l = absurd h
+look_changed k w (n ∷ ns) [] i h l = absurd (omega arith)
+look_changed k w (n ∷ ns) (y ∷ ys) zero h l = rw (eqb-true k n h) (sym (put_twice n (Some w) (Some y) (look ns ys)))
+look_changed k w (n ∷ ns) (y ∷ ys) (suc i) h l =
+    ap (put n (Some y)) (look_changed k w ns ys i h.1 (omega arith)) ∙ put_swapped n k (Some y) (Some w) (look ns ys) (apart k n h.0)
 
-look_added : {A : Type 0} (k q : ℕ) (w : A) (i : ℕ) (ns : List ℕ) (ys : List A) → Missing k ns → length ys ≡ length ns → i ≤ length ns → look (insert ns i k) (insert ys i w) q ≡ put k (Some w) (look ns ys) q
+look_added : {A : Type 0} (k : ℕ) (w : A) (i : ℕ) (ns : List ℕ) (ys : List A) → Missing k ns → length ys ≡ length ns → i ≤ length ns → look (insert ns i k) (insert ys i w) ≡ put k (Some w) (look ns ys)
 unfolding look
-look_added k q w zero ns ys h pairs l = refl
-look_added k q w (suc i) [] ys h pairs l = absurd (omega arith)
-look_added k q w (suc i) (n ∷ ns) [] h pairs l = absurd (omega arith)
-look_added k q w (suc i) (n ∷ ns) (y ∷ ys) h pairs l =
-    ap (cond (eqb q n) (Some y)) (look_added k q w i ns ys h.1 (omega arith) (omega arith))
-    ∙ either (eqb q k) (eqb q n) (Some w) (Some y) (look ns ys q) (not_both k n q h.0)
+look_added k w zero ns ys h pairs l = refl
+look_added k w (suc i) [] ys h pairs l = absurd (omega arith)
+look_added k w (suc i) (n ∷ ns) [] h pairs l = absurd (omega arith)
+look_added k w (suc i) (n ∷ ns) (y ∷ ys) h pairs l =
+    ap (put n (Some y)) (look_added k w i ns ys h.1 (omega arith) (omega arith)) ∙ put_swapped n k (Some y) (Some w) (look ns ys) (apart k n h.0)
 
 -- what is found of a number, and what is found of any once something was put at the place of this one
 module _ {A : Type 0} (ns : List ℕ) (ys : List A) (k i : ℕ) where
@@ -95,10 +80,10 @@ module _ {A : Type 0} (ns : List ℕ) (ys : List A) (k i : ℕ) where
   absent place = look_missing k ns ys (missing ns k i place)
 
   pub look_set : (w : A) → Rising ns → length ys ≡ length ns → Finds ns k (Ok i) → look ns (set ys i w) ≡ put k (Some w) (look ns ys)
-  look_set w rising pairs place = fun_ext (λ q. look_changed k q w ns ys i (hit ns k i rising place) (omega (arith, place.0)))
+  look_set w rising pairs place = look_changed k w ns ys i (hit ns k i rising place) (omega (arith, place.0))
 
   pub look_inserted : (w : A) → length ys ≡ length ns → Finds ns k (Err i) → look (insert ns i k) (insert ys i w) ≡ put k (Some w) (look ns ys)
-  look_inserted w pairs place = fun_ext (λ q. look_added k q w i ns ys (missing ns k i place) pairs place.0)
+  look_inserted w pairs place = look_added k w i ns ys (missing ns k i place) pairs place.0
 
 -- something is had under a number that has a place
 pub held : {A : Type 0} (ns : List ℕ) (ys : List A) (k i : ℕ) → Rising ns → length ys ≡ length ns → Finds ns k (Ok i) → is_some (look ns ys k) ≡ true

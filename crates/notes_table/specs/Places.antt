@@ -1,6 +1,7 @@
 -- Numbers in rising order, and what stands beside each.
 -- Assumes nothing.
-use Rattle.std.specs.Prelude.{◌≡◌, ℕ, ◌<◌, ◌≤◌, List, [], ◌∷◌, length, Some, None, Ok, Err, Option, Result, ◌==◌, cond, slice_index}
+use Rattle.std.specs.Prelude.{◌≡◌, ℕ, ◌<◌, ◌≤◌, List, [], ◌∷◌, length, Some, None, Ok, Err, Option, Result, slice_index}
+use Rattle.register.specs.Count.{put}
 
 -- each number is higher than those before it
 abbrev pub Rising : List ℕ → Type 0
@@ -13,6 +14,6 @@ Finds ns k (Err i) = (i ≤ length ns) × ((j : ℕ) → j < i → slice_index n
 
 -- what stands beside the first k, if k is among the numbers
 unfoldable pub look : {A : Type 0} → List ℕ → List A → ℕ → Option A
-look [] ys k = None
-look (n ∷ ns) [] k = None
-look (n ∷ ns) (y ∷ ys) k = cond (k == n) (Some y) (look ns ys k)
+look [] ys = λ k. None
+look (n ∷ ns) [] = λ k. None
+look (n ∷ ns) (y ∷ ys) = put n (Some y) (look ns ys)

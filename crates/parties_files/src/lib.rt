@@ -2,5 +2,5 @@
 #![tactic(auto)]
 
 pub mod office;
-pub mod outbox;
+mod outbox;
 pub mod warden;

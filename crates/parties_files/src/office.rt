@@ -37,7 +37,7 @@ pub struct Office {
     pub desks: Desks,
     pub up: bool,
     /// The bytes of a record on its way to the file.
-    pub record: Vec<u8>,
+    pub encoded: Vec<u8>,
 }
 
 impl Office {
@@ -51,7 +51,7 @@ impl Office {
             heap,
             desks: Desks::new(heap, quorum),
             up: false,
-            record: Vec::new(heap),
+            encoded: Vec::new(heap),
         }
     }
 
@@ -202,11 +202,11 @@ impl Office {
         ensures sent { S.Storage.sent store.new ≡ S.Storage.sent store.old }
     {
         let edition = self.desks.desk(number).now.edition;
-        self.record.clear();
-        let Ok(()) = put_ended(&mut self.record, number, edition) else {
+        self.encoded.clear();
+        let Ok(()) = put_ended(&mut self.encoded, number, edition) else {
             return Err(Fault::Memory);
         };
-        commit(store, self.record.as_slice())
+        commit(store, self.encoded.as_slice())
     }
 
     // That the present edition of a note has begun is on the file, synced.
@@ -218,11 +218,11 @@ impl Office {
         ensures sent { S.Storage.sent store.new ≡ S.Storage.sent store.old }
     {
         let note = self.desks.desk(number).now;
-        self.record.clear();
-        let Ok(()) = put_begun(&mut self.record, number, &note) else {
+        self.encoded.clear();
+        let Ok(()) = put_begun(&mut self.encoded, number, &note) else {
             return Err(Fault::Memory);
         };
-        commit(store, self.record.as_slice())
+        commit(store, self.encoded.as_slice())
     }
 
     // Writes an edition that began before, if it is the next.

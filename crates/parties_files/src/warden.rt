@@ -40,7 +40,7 @@ pub struct Warden {
     pub outbox: Vec<Outgoing>,
     pub up: bool,
     /// The bytes of a record on its way to the file.
-    pub record: Vec<u8>,
+    pub encoded: Vec<u8>,
 }
 
 impl Warden {
@@ -55,7 +55,7 @@ impl Warden {
             notes: Notes::new(heap),
             outbox: Vec::new(heap),
             up: false,
-            record: Vec::new(heap),
+            encoded: Vec::new(heap),
         }
     }
 
@@ -163,9 +163,9 @@ impl Warden {
         ensures sent { S.Storage.sent store.new ≡ S.Storage.sent store.old }
     {
         let note = self.notes.note(number);
-        self.record.clear();
-        put_take(&mut self.record, number, &note)?;
-        store.append(self.record.as_slice())
+        self.encoded.clear();
+        put_take(&mut self.encoded, number, &note)?;
+        store.append(self.encoded.as_slice())
     }
 
     // What it sends waits in the outbox, in which there is room.

@@ -5,7 +5,7 @@ use mathlib.Core.List.Memᴰ
 use mathlib.Core.List.{Memᴰ}
 use Rattle.std.proofs.lemmas.Bool.{cond_both}
 use Rattle.register.specs.Note.{Note}
-use Rattle.register.proofs.Put.{put_all, put_same}
+use Rattle.register.proofs.Put.{put_all, put_same, put_twice}
 use Rattle.protocol.specs.Message.{office, Message, Take, Took, Packet, Sends, One, packets}
 use Rattle.protocol.specs.Step.{Step, Done, Refused, refuse}
 use Rattle.protocol.specs.Warden.{WardenDone, taken}
@@ -22,7 +22,7 @@ use Rattle.protocol_files.specs.System.{System, with_warden, warden_flushed, war
 use Rattle.protocol_files.specs.Progress.{Way, Onward, Awake}
 use Rattle.protocol_files.proofs.Takes.{heard, taken_records}
 use Rattle.protocol_files.proofs.WardenFiles.{writes_by}
-use Rattle.protocol_files.proofs.WardenRuns.{put_twice, hears_all}
+use Rattle.protocol_files.proofs.WardenRuns.{hears_all}
 use Rattle.protocol_files.proofs.WardenMoves.{bag_fits, own_run}
 use Rattle.protocol_files.proofs.Refines.{followed}
 use Rattle.protocol_files.proofs.WardenGoes.{took_front}

@@ -3,7 +3,7 @@
 use Rattle.std.proofs.Common.{◌≡◌, ℕ, ◌*◌, ◌<◌, Bool, true, false, List, [], ◌∷◌, ◌++◌, sym, refl, ap, ◌∙◌, subst, append_assoc, append-nil}
 use mathlib.Core.List.{Memᴰ}
 use Rattle.register.specs.Count.{put}
-use Rattle.register.proofs.Put.{put_same}
+use Rattle.register.proofs.Put.{put_same, put_twice}
 use Rattle.protocol.specs.Message.{Message, Packet}
 use Rattle.protocol.specs.Log.{Log}
 use Rattle.protocol.proofs.Ways.{put_own}
@@ -18,7 +18,6 @@ use Rattle.protocol_files.specs.Nodes.{Node, Warden, with_disk, fallen, stepped,
 use Rattle.protocol_files.specs.System.{System, with_warden, Found, Anew, Move, warden_hear, warden_flushes, warden_falls, warden_opens, warden_scribbles, warden_renames, Run, then}
 use Rattle.protocol_files.specs.Runs.{WardenGoesOn}
 use Rattle.protocol_files.proofs.Journals.{all_of_it, known, found_in, found_all}
-use Rattle.protocol_files.proofs.WardenRuns.{put_twice}
 use Rattle.protocol_files.proofs.Sound.{good_run, sound_warden, up_warden}
 
 -- what is seen stands before what was seen

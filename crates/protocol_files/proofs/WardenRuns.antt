@@ -1,14 +1,13 @@
 -- A run without files goes on with what a warden takes, and with all that came to it.
 -- Assumes nothing.
-use Rattle.std.proofs.Common.{◌≡◌, ℕ, ◌<◌, Bool, false, List, [], ◌∷◌, ◌++◌, sym, refl, ap, ◌∙◌, subst, ⊎_elim, arith}
-use mathlib.Core.Path.{fun_ext}
+use Rattle.std.proofs.Common.{◌≡◌, ℕ, ◌<◌, Bool, false, List, [], ◌∷◌, ◌++◌, sym, refl, ap, ◌∙◌, subst, ⊎_elim}
 use mathlib.Core.List.Memᴰ
 use mathlib.Core.List.{Memᴰ}
 use borrow.Author.Tests.{clash}
 use Rattle.std.proofs.lemmas.Bool.{cond-false}
 use Rattle.register.specs.Count.{put}
 use Rattle.register.specs.Note.{Note}
-use Rattle.register.proofs.Put.{put_same}
+use Rattle.register.proofs.Put.{put_same, put_twice}
 use Rattle.protocol.specs.Message.{office, Message, Take, Packet, packets}
 use Rattle.protocol.specs.Step.{Outcome, Done, Refused, Step}
 use Rattle.protocol.specs.Warden.{WardenDone, taken, answered}
@@ -23,9 +22,6 @@ use Rattle.frames.specs.Format.{Frame, Sent}
 use Rattle.protocol_files.specs.Records.{warden_records, warden_replays, warden_replays_all, took_by, took_all}
 use Rattle.protocol_files.proofs.Takes.{Within, Heard, took, other, heard, Taken, taken_more}
 use Rattle.protocol_files.proofs.WardenFiles.{Batch, nothing, hear}
-
-pub put_twice : {A : Type 0} (i : ℕ) (a b : A) (c : ℕ → A) → put i a (put i b c) ≡ put i a c
-put_twice i a b c = fun_ext (λ j. grind arith)
 
 took_all-++ : (i : ℕ) (fs gs : List Frame) (l : Log) → took_all i (fs ++ gs) l ≡ took_all i gs (took_all i fs l)
 took_all-++ i [] gs l = refl

@@ -1,6 +1,7 @@
 -- A function that is changed at one place.
 -- Assumes nothing.
-use Rattle.std.proofs.Common.{◌≡◌, ℕ, Bool, true, false, cond, eqb, refl}
+use Rattle.std.proofs.Common.{◌≡◌, ℕ, Bool, true, false, cond, eqb, refl, arith}
+use mathlib.Core.Path.{fun_ext}
 use Rattle.std.proofs.lemmas.Bool.{cond_both, eqb-true, eq-eqb}
 use Rattle.register.specs.Count.{put}
 
@@ -18,3 +19,11 @@ put_both P i a b g h here there j = go (eqb j i) refl
 
 pub put_same : {A : Type 0} (i : ℕ) (a : A) (g : ℕ → A) → put i a g i ≡ a
 put_same i a g = rw (eq-eqb i i refl)
+
+-- what is put last at a place stays
+pub put_twice : {A : Type 0} (i : ℕ) (a b : A) (g : ℕ → A) → put i a (put i b g) ≡ put i a g
+put_twice i a b g = fun_ext (λ j. grind arith)
+
+-- what is put at two places can be put in either order
+pub put_swapped : {A : Type 0} (i k : ℕ) (a b : A) (g : ℕ → A) → (i ≡ k → ⊥) → put i a (put k b g) ≡ put k b (put i a g)
+put_swapped i k a b g apart = fun_ext (λ j. grind arith)
