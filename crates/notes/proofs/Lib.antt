@@ -1,4 +1,3 @@
 mod Words
 mod Places
-mod Tests
 mod Turns

@@ -1,7 +1,7 @@
 -- The loop that looks for the note that is read: one turn of it, and what it comes to.
 -- Assumes nothing.
-use Rattle.std.proofs.Common.{◌≡◌, ℕ, suc, ◌+◌, ◌<◌, true, false, cond, ltb, Some, None, Option, sym, ap, ◌∙◌, add-one, arith, Bor, MatchOption}
-use Rattle.std.proofs.lemmas.Bool.{and_left, and_right, and_from, cond-true, lt-ltb}
+use Rattle.std.proofs.Common.{◌≡◌, ℕ, suc, ◌+◌, ◌<◌, true, false, Some, None, Option, sym, ap, ◌∙◌, add-one, arith, Bor, MatchOption}
+use Rattle.std.proofs.lemmas.Bool.{and_left, and_right, and_from}
 use Rattle.register.specs.Note as rules
 use Rattle.register.specs.Rule.{Replies, readable, pick, Found, Nothing, IsRead}
 use Rattle.register.proofs.Picks.{pick_past, pick_here, pick_stays, pick_found, pick_nothing}
@@ -19,10 +19,6 @@ module _ (n f : ℕ) (p : Replies) where
 
     pub found : (x : rules.Note) → x ≡ p.told i → i < n → true ≡ p.heard i → true ≡ readable n f p x → pick n f p n ≡ Found (p.told i)
     found x is below heard e = pick_stays n f p (p.told i) (suc i) n (omega arith) (pick_here n f p i before (and_from _ _ (sym heard) (ap (readable n f p) (sym is) ∙ sym e)))
-
-  -- the place that was found
-  pub placed : (k : ℕ) → k < n → pick n f p n ≡ Found (p.told k) → pick n f p n ≡ cond (ltb k n) (Found (p.told k)) Nothing
-  placed k below e = e ∙ sym (cond-true (ltb k n) (Found (p.told k)) Nothing (lt-ltb k n below))
 
   -- what is computed is what the rule says
   pub rule_of : (r : Option (Bor Note)) → reading_of r ≡ pick n f p n → MatchOption r ((x : rules.Note) → IsRead n f p x → ⊥) (λ x. IsRead n f p (note_of x.now))

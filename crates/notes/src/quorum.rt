@@ -1,8 +1,8 @@
 // How many wardens there are, how many of them may be faulty, and how many are enough.
-ghost use Rattle.std.specs.Prelude.{◌≡◌, ◌<◌, ◌≤◌, MatchOption};
+ghost use Rattle.std.specs.Prelude.{◌≡◌, ℕ, ◌<◌, ◌≤◌, Bool, MatchOption};
 ghost use Rattle.register.specs.Count.{count};
 ghost use Rattle.register.specs.Rule.{quorum as enough};
-ghost use Rattle.notes.specs.Views.{members, Numbers};
+ghost use Rattle.notes.specs.Views.{members, Numbers, Tells};
 
 use crate::ids::PartyId;
 pub use crate::kept::quorum::Quorum;
@@ -36,10 +36,25 @@ impl Quorum {
         }
     }
 
+    /// How many of the wardens pass a test.
+    pub(crate) fn count<F: Fn(WardenId) -> bool>(&self, test: F) -> u8
+        requires { F.IsAlwaysCallable test }
+        ensures value { (p : ℕ → Bool) → Tells (F.post test) p → result ≡ count self.now.wardens p }
+        ensures bound { result ≤ self.now.wardens }
+    {
+        let mut all = 0;
+        for index in 0..self.wardens {
+            if test(WardenId { index }) {
+                all += 1;
+            }
+        }
+        all
+    }
+
     /// Whether all wardens but as many as may be faulty are in the set.
     pub fn is_met(&self, set: WardenSet) -> bool
         ensures { result ≡ enough self.now.wardens self.now.faults (count self.now.wardens (members set)) }
     {
-        self.wardens <= set.count(self.wardens) + self.faults
+        self.wardens <= self.count(|warden| set.contains(warden)) + self.faults
     }
 }

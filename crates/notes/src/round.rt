@@ -1,8 +1,8 @@
 // What a reader has heard in one round, by value: it is added to and handed back; and the rule by which a note is read.
-ghost use Rattle.std.specs.Prelude.{◌≡◌, ℕ, ◌<◌, ◌≤◌, ◌&&◌, ltb, if◌then◌else◌, MatchOption, nat_lt};
+ghost use Rattle.std.specs.Prelude.{◌≡◌, ℕ, ◌≤◌, ◌&&◌, if◌then◌else◌, MatchOption, nat_lt};
 ghost use Rattle.register.specs.Note.{same, Note as AnyNote};
-ghost use Rattle.register.specs.Rule.{silence, reply, votes, later, readable, IsRead, pick, Found, Nothing};
-ghost use Rattle.notes.specs.Views.{note_of, replies_of, reading_of};
+ghost use Rattle.register.specs.Rule.{silence, reply, votes, later, readable, IsRead, pick};
+ghost use Rattle.notes.specs.Views.{note_of, replies_of, reading_of, told_at};
 
 use crate::ids::RoundNumber;
 use crate::note::Note;
@@ -55,32 +55,28 @@ impl Round {
         }
     }
 
-    fn has_told(&self, place: usize) -> bool
-        requires { place < 63 }
-        ensures { result ≡ (replies_of self.now).heard place }
+    fn has_told(&self, warden: WardenId) -> bool
+        ensures { result ≡ (replies_of self.now).heard warden.index }
     {
-        self.heard.has_place(place)
+        self.heard.contains(warden)
     }
 
-    fn told_by(&self, place: usize) -> &Note
-        requires { place < 63 }
-        ensures { note_of result.now ≡ (replies_of self.now).told place }
+    fn told_by(&self, warden: WardenId) -> &Note
+        ensures { note_of result.now ≡ (replies_of self.now).told warden.index }
     {
-        &self.told[place]
+        &self.told[warden.index as usize]
     }
 
-    fn told_this(&self, place: usize, note: &Note) -> bool
-        requires { place < 63 }
-        ensures { result ≡ ((replies_of self.now).heard place && same ((replies_of self.now).told place) (note_of note.now)) }
+    fn told_this(&self, warden: WardenId, note: &Note) -> bool
+        ensures { result ≡ ((replies_of self.now).heard warden.index && same ((replies_of self.now).told warden.index) (note_of note.now)) }
     {
-        self.has_told(place) && self.told_by(place).is_same(note)
+        self.has_told(warden) && self.told_by(warden) == note
     }
 
-    fn told_later(&self, place: usize, note: &Note) -> bool
-        requires { place < 63 }
-        ensures { result ≡ ((replies_of self.now).heard place && nat_lt (note_of note.now).edition ((replies_of self.now).told place).edition) }
+    fn told_later(&self, warden: WardenId, note: &Note) -> bool
+        ensures { result ≡ ((replies_of self.now).heard warden.index && nat_lt (note_of note.now).edition ((replies_of self.now).told warden.index).edition) }
     {
-        self.has_told(place) && self.told_by(place).edition.is_above(note.edition)
+        self.has_told(warden) && self.told_by(warden).edition > note.edition
     }
 
     /// How many told exactly this note.
@@ -88,13 +84,7 @@ impl Round {
         ensures value { result ≡ votes quorum.now.wardens (replies_of self.now) (note_of note.now) }
         ensures bound { result ≤ quorum.now.wardens }
     {
-        let mut all = 0;
-        for i in 0..quorum.wardens {
-            if self.told_this(i as usize, note) {
-                all += 1;
-            }
-        }
-        all
+        quorum.count(|warden| self.told_this(warden, note))
     }
 
     /// How many told one of a later edition.
@@ -102,13 +92,7 @@ impl Round {
         ensures value { result ≡ later quorum.now.wardens (replies_of self.now) (note_of note.now).edition }
         ensures bound { result ≤ quorum.now.wardens }
     {
-        let mut all = 0;
-        for i in 0..quorum.wardens {
-            if self.told_later(i as usize, note) {
-                all += 1;
-            }
-        }
-        all
+        quorum.count(|warden| self.told_later(warden, note))
     }
 
     /// Whether more wardens than may be faulty told exactly this note, and no more than that a later one.
@@ -123,34 +107,31 @@ impl Round {
         ensures computed { reading_of result ≡ pick quorum.now.wardens quorum.now.faults (replies_of self.now) quorum.now.wardens }
         ensures rule { MatchOption result ((x : AnyNote) → IsRead quorum.now.wardens quorum.now.faults (replies_of self.now) x → ⊥) (λ x. IsRead quorum.now.wardens quorum.now.faults (replies_of self.now) (note_of x.now)) }
     {
-        self.first_read(quorum)
+        self.note_read(quorum)
     }
 
-    fn first_read(&self, quorum: &Quorum) -> Option<&Note>
+    fn note_read(&self, quorum: &Quorum) -> Option<&Note>
         ensures { reading_of result ≡ pick quorum.now.wardens quorum.now.faults (replies_of self.now) quorum.now.wardens }
     {
-        let place = self.place_of_read(quorum);
-        if place < quorum.wardens {
-            Some(self.told_by(place as usize))
-        } else {
-            None
-        }
+        let warden = self.first_read(quorum)?;
+        Some(self.told_by(warden))
     }
 
-    // The place of the first warden whose note is read, or else the number of wardens.
-    fn place_of_read(&self, quorum: &Quorum) -> u8
-        ensures { pick quorum.now.wardens quorum.now.faults (replies_of self.now) quorum.now.wardens ≡ (if ltb result quorum.now.wardens then Found ((replies_of self.now).told result) else Nothing) }
+    // The first warden whose note is read.
+    fn first_read(&self, quorum: &Quorum) -> Option<WardenId>
+        ensures { pick quorum.now.wardens quorum.now.faults (replies_of self.now) quorum.now.wardens ≡ told_at (replies_of self.now) result }
     {
-        let mut place = quorum.wardens;
-        'told: for i in 0..quorum.wardens {
-            if !self.has_told(i as usize) {
+        let mut first = None;
+        'told: for index in 0..quorum.wardens {
+            let warden = WardenId { index };
+            if !self.has_told(warden) {
                 continue 'told;
             }
-            if self.is_read(quorum, self.told_by(i as usize)) {
-                place = i;
+            if self.is_read(quorum, self.told_by(warden)) {
+                first = Some(warden);
                 break 'told;
             }
         }
-        place
+        first
     }
 }

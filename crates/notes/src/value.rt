@@ -1,5 +1,7 @@
 // The value of a note.
 ghost use Rattle.std.specs.Prelude.{◌≡◌, ◌<◌, length, MatchOption};
+ghost use Rattle.std.specs.Str.{bytes_eq};
+ghost use Rattle.std.proofs.Common.{rules};
 ghost use Rattle.notes.specs.Views.{bytes_of};
 
 pub use crate::kept::value::Value;
@@ -28,4 +30,19 @@ impl Value {
     {
         &self.bytes[0..self.length as usize]
     }
+}
+
+// Two values are alike in what they have. What stands past the length is no part of them.
+impl PartialEq for Value {
+    ghost eq = { λ a b. bytes_eq (bytes_of a) (bytes_of b) };
+
+    ghost laws = { Prim.search rules };
+
+    fn eq(&self, other: &Value) -> bool {
+        self.bytes() == other.bytes()
+    }
+}
+
+impl Eq for Value {
+    ghost laws = { Prim.search rules };
 }

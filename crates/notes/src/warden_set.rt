@@ -1,12 +1,12 @@
 // Sets of wardens.
-ghost use Rattle.std.specs.Prelude.{◌≡◌, ℕ, ◌<◌, ◌≤◌, true, false};
-ghost use Rattle.register.specs.Count.{count, put};
+ghost use Rattle.std.specs.Prelude.{◌≡◌, ℕ, true, false};
+ghost use Rattle.register.specs.Count.{put};
 ghost use Rattle.notes.specs.Views.{members};
 
 use crate::kept::warden_id::WardenId;
 
 /// Who is in the set, as the bits of one word.
-#[derive(Clone, Copy)]
+#[derive(Clone, Copy, PartialEq, Eq, Debug)]
 pub struct WardenSet {
     pub bits: u64,
 }
@@ -18,17 +18,10 @@ impl WardenSet {
         WardenSet { bits: 0 }
     }
 
-    pub(crate) fn has_place(self, place: usize) -> bool
-        requires { place < 63 }
-        ensures { result ≡ members self place }
-    {
-        (self.bits >> place) % 2 == 1
-    }
-
     pub fn contains(self, warden: WardenId) -> bool
         ensures { result ≡ members self warden.index }
     {
-        self.has_place(warden.index as usize)
+        (self.bits >> warden.index) % 2 == 1
     }
 
     /// The set with one warden more.
@@ -38,20 +31,5 @@ impl WardenSet {
         WardenSet {
             bits: self.bits | 1 << warden.index,
         }
-    }
-
-    /// How many of the first `wardens` are in the set; there are no more than 63.
-    pub(crate) fn count(self, wardens: u8) -> u8
-        requires { wardens ≤ 63 }
-        ensures value { result ≡ count wardens (members self) }
-        ensures bound { result ≤ wardens }
-    {
-        let mut all = 0;
-        for i in 0..wardens {
-            if self.has_place(i as usize) {
-                all += 1;
-            }
-        }
-        all
     }
 }

@@ -5,6 +5,6 @@ use Rattle.notes.proofs.round.Round.read.Goals as goal
 pub returns : goal.returns
 returns c =
     record {
-      computed = c.first_read.ensures;
-      rule = rule_of c.args.quorum.now.wardens c.args.quorum.now.faults (replies_of c.args.self.now) c.first_read.result c.first_read.ensures;
+      computed = c.note_read.ensures;
+      rule = rule_of c.args.quorum.now.wardens c.args.quorum.now.faults (replies_of c.args.self.now) c.note_read.result c.note_read.ensures;
     }

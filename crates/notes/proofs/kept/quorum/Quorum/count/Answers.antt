@@ -1,0 +1,16 @@
+use Rattle.std.proofs.Common.{◌≡◌, sym, arith}
+use Rattle.register.specs.Count.{count}
+use Rattle.register.proofs.Counting.{count_none, count_more}
+use Rattle.notes.proofs.kept.quorum.Quorum.count.Goals as goal
+
+pub loop-index-init : goal.loop-index-init
+loop-index-init g c = record { bound = omega arith; value = λ p h. sym (count_none p) }
+
+pub loop-index-preserved : goal.loop-index-preserved
+loop-index-preserved g c = record {
+  bound = grind arith;
+  value = λ p h.
+      let told = h _ _ c.test.ensures in
+      let before : c.loop-index.all ≡ count c.loop-index.index p = c.loop-index.invariant.value p h in
+      grind (arith, count_more);
+}
