@@ -4,8 +4,8 @@ use Rattle.std.specs.Prelude.{◌≡◌, ℕ, ◌*◌, ◌/◌, ◌%◌, ◌^◌
 use Rattle.std.specs.Borrow.{Bor}
 use Rattle.register.specs.Note as rules
 use Rattle.register.specs.Rule.{Replies, Reading, Found, Nothing}
-use Rattle.notes.specs.declared.kept.value.Value.{Value}
-use Rattle.notes.specs.declared.kept.warden_id.WardenId.{WardenId}
+use Rattle.notes.specs.declared.value.Value.{Value}
+use Rattle.notes.specs.declared.warden_id.WardenId.{WardenId}
 use Rattle.notes.specs.declared.note.Note.{Note}
 use Rattle.notes.specs.declared.warden_set.WardenSet.{WardenSet}
 use Rattle.notes.specs.declared.round.Round.{Round}

@@ -2,7 +2,6 @@
 #![tactic(auto)]
 
 pub mod ids;
-pub mod kept;
 pub mod note;
 pub mod quorum;
 pub mod round;

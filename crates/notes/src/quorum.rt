@@ -1,15 +1,25 @@
 // How many wardens there are, how many of them may be faulty, and how many are enough.
-ghost use Rattle.std.specs.Prelude.{◌≡◌, ℕ, ◌<◌, ◌≤◌, Bool, MatchOption};
+ghost use Rattle.std.specs.Prelude.{◌≡◌, ℕ, ◌*◌, ◌<◌, ◌≤◌, Bool, MatchOption};
 ghost use Rattle.register.specs.Count.{count};
 ghost use Rattle.register.specs.Rule.{quorum as enough};
-ghost use Rattle.notes.specs.Views.{members, Numbers, Tells};
 
 use crate::ids::PartyId;
-pub use crate::kept::quorum::Quorum;
-use crate::kept::warden_id::WardenId;
+use crate::warden_id::WardenId;
 use crate::warden_set::WardenSet;
 
+/// From 5 to 63 wardens; fewer than a fourth of them may lie.
+#[derive(Clone, Copy, PartialEq, Eq, Debug)]
+pub struct Quorum {
+    pub wardens: u8,
+    pub faults: u8,
+    ghost least: { 5 ≤ wardens },
+    ghost most: { wardens ≤ 63 },
+    ghost few: { 4 * faults < wardens },
+}
+
 impl Quorum {
+    ghost use Rattle.notes.specs.Views.{members, Numbers, Tells};
+
     /// So many wardens and faults, if that can be.
     pub fn new(wardens: u8, faults: u8) -> Option<Quorum>
         ensures { MatchOption result (Numbers wardens faults → ⊥) (λ q. (q.wardens ≡ wardens) × (q.faults ≡ faults)) }

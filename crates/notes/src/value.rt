@@ -1,15 +1,22 @@
 // The value of a note.
-ghost use Rattle.std.specs.Prelude.{◌≡◌, ◌<◌, length, MatchOption};
+ghost use Rattle.std.specs.Prelude.{◌≡◌, ◌<◌, ◌≤◌, length, MatchOption};
 ghost use Rattle.std.specs.Str.{bytes_eq};
 ghost use Rattle.std.proofs.Common.{rules};
-ghost use Rattle.notes.specs.Views.{bytes_of};
-
-pub use crate::kept::value::Value;
 
 /// The most bytes that a value has.
 pub const LONGEST: usize = 64;
 
+/// Up to 64 bytes, in place. What stands past the length is no part of it.
+#[derive(Clone, Copy)]
+pub struct Value {
+    pub length: u8,
+    pub bytes: [u8; 64],
+    ghost fits: { length ≤ 64 },
+}
+
 impl Value {
+    ghost use Rattle.notes.specs.Views.{bytes_of};
+
     /// The value with these bytes, unless they are too many.
     pub fn new(bytes: &[u8]) -> Option<Value>
         ensures { MatchOption result (64 < length bytes.now) (λ v. bytes_of v ≡ bytes.now) }
@@ -34,6 +41,8 @@ impl Value {
 
 // Two values are alike in what they have. What stands past the length is no part of them.
 impl PartialEq for Value {
+    ghost use Rattle.notes.specs.Views.{bytes_of};
+
     ghost eq = { λ a b. bytes_eq (bytes_of a) (bytes_of b) };
 
     ghost laws = { Prim.search rules };

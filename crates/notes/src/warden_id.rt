@@ -1,7 +1,12 @@
 // The number of a warden.
-ghost use Rattle.std.specs.Prelude.{◌≡◌, ◌≤◌, MatchOption};
+ghost use Rattle.std.specs.Prelude.{◌≡◌, ◌<◌, ◌≤◌, MatchOption};
 
-pub use crate::kept::warden_id::WardenId;
+/// Which of the wardens, of whom there are at most 63.
+#[derive(Clone, Copy, PartialEq, Eq, PartialOrd, Ord, Debug)]
+pub struct WardenId {
+    pub index: u8,
+    ghost small: { index < 63 },
+}
 
 impl WardenId {
     /// The warden of this number, if a warden can have it.

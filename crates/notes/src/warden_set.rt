@@ -3,7 +3,7 @@ ghost use Rattle.std.specs.Prelude.{◌≡◌, ℕ, true, false};
 ghost use Rattle.register.specs.Count.{put};
 ghost use Rattle.notes.specs.Views.{members};
 
-use crate::kept::warden_id::WardenId;
+use crate::warden_id::WardenId;
 
 /// Who is in the set, as the bits of one word.
 #[derive(Clone, Copy, PartialEq, Eq, Debug)]

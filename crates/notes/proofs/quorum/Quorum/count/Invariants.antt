@@ -1,7 +1,7 @@
 use Rattle.std.proofs.Common.{◌≡◌, ℕ, ◌≤◌, Bool}
 use Rattle.register.specs.Count.{count}
 use Rattle.notes.specs.Views.{Tells}
-use Rattle.notes.proofs.kept.quorum.Quorum.count.Given as goal
+use Rattle.notes.proofs.quorum.Quorum.count.Given as goal
 
 abbrev pub invariant-loop-index : goal.invariant-loop-index
 invariant-loop-index g l = record {

@@ -1,7 +1,7 @@
 use Rattle.std.proofs.Common.{◌≡◌, sym, arith}
 use Rattle.register.specs.Count.{count}
 use Rattle.register.proofs.Counting.{count_none, count_more}
-use Rattle.notes.proofs.kept.quorum.Quorum.count.Goals as goal
+use Rattle.notes.proofs.quorum.Quorum.count.Goals as goal
 
 pub loop-index-init : goal.loop-index-init
 loop-index-init g c = record { bound = omega arith; value = λ p h. sym (count_none p) }

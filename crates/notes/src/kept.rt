@@ -1,4 +1,0 @@
-// The types whose fields keep a rule. Each stands in a file of its own, since the definitions that speak of it cannot be cited there.
-pub mod quorum;
-pub mod value;
-pub mod warden_id;
