@@ -1,16 +1,16 @@
 -- What follows for whoever has tables.
 -- Assumes nothing.
-use Rattle.std.proofs.Common.{◌≡◌, ℕ, ◌<◌, ◌≤◌, Bool, true, false, get_or, Some, Ok, Err, vec_items, Option, Result, refl, ap, ◌∙◌, ⊎_elim, arith}
+use Rattle.std.proofs.Common.{◌≡◌, ℕ, ◌<◌, ◌≤◌, Bool, true, false, get_or, is_some, Some, Ok, Err, Option, Result, refl, ap, ◌∙◌, ⊎_elim, arith}
 use Rattle.std.proofs.lemmas.Bool.{both_ways, ne_eqb, cases_lt}
 use Rattle.register.specs.Count.{put}
 use Rattle.register.proofs.Put.{put_same}
+use Rattle.notes.specs.declared.ids.NoteId.{NoteId}
 use Rattle.notes_table.specs.Laws.{Laws}
 use Rattle.notes_table.specs.Views.{map_of, many, had, Sets, Puts}
-use Rattle.notes_table.specs.declared.kept.table.Table.{Table}
+use Rattle.notes_table.specs.declared.table.Table.{Table}
 use Rattle.notes_table.specs.declared.unplaced.Unplaced.{Unplaced}
 use Rattle.notes_table.specs.declared.unplaced.Unplaced.TheVariants.{Full, Memory}
-use Rattle.notes_table.proofs.Looks.{found, held}
-use Rattle.notes_table.proofs.Counted.{counted}
+use Rattle.notes_table.proofs.Counted.{counted, placed}
 
 put_other : {A : Type 0} (k j : ℕ) (a : A) (f : ℕ → A) → (j ≡ k → ⊥) → put k a f j ≡ f j
 put_other k j a f other = rw (ne_eqb j k other) refl
@@ -44,10 +44,10 @@ module _ {T : Type 0} where
     full (Err Memory) (same, _, few) new all = absurd (omega arith)
 
   -- a number that is had is below n, if none from n on is
-  low : (t : Table T) (n : ℕ) → ((k : ℕ) → n ≤ k → had t k ≡ false) → (i : ℕ) → i < many t → get_or (vec_items t.numbers) i 0 < n
-  low t n none i within =
-      let k : ℕ = get_or (vec_items t.numbers) i 0 in
-      ⊎_elim (λ l. l) (λ l. absurd (both_ways (had t k) (none k l) (held (vec_items t.numbers) (vec_items t.items) k i t.rising t.pairs (within, refl)))) (cases_lt k n)
+  low : (t : Table T) (n : ℕ) → ((k : ℕ) → n ≤ k → had t k ≡ false) → (i : ℕ) (d : NoteId × T) → i < many t → (get_or t.notes.entries i d).0.0 < n
+  low t n none i d within =
+      let k : ℕ = (get_or t.notes.entries i d).0.0 in
+      ⊎_elim (λ l. l) (λ l. absurd (both_ways (had t k) (none k l) (ap is_some (placed t.notes.entries i d t.rising within)))) (cases_lt k n)
 
   pub laws : Laws T
   laws = record {
@@ -56,7 +56,7 @@ module _ {T : Type 0} where
     others_set = others_set;
     over = over;
     full = full;
-    placed = λ t i d within. found (vec_items t.numbers) (vec_items t.items) (get_or (vec_items t.numbers) i 0) i d t.rising t.pairs (within, refl);
-    counted = λ t n none. counted (vec_items t.numbers) (vec_items t.items) n t.rising t.pairs (low t n none);
+    placed = λ t i d within. placed t.notes.entries i d t.rising within;
+    counted = λ t n none. counted t.notes.entries n t.rising (low t n none);
     few = λ t. t.few;
   }

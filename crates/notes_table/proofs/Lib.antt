@@ -1,4 +1,3 @@
 mod Looks
 mod Counted
-mod Tables
 pub mod Lawful

@@ -1,120 +1,80 @@
--- What is found among numbers in rising order, before and after something is put there.
+-- What is found in a table, before and after something is put there.
 -- Assumes nothing.
-use Rattle.std.proofs.Common.{◌≡◌, ℕ, false, zero, suc, ◌+◌, ◌-◌, ◌<◌, ◌≤◌, true, eqb, List, [], ◌∷◌, length, get_or, set, is_some, Some, None, Ok, Err, sym, refl, ap, ◌∙◌, ⊎_elim, arith}
-use Rattle.std.specs.List.{insert}
-use Rattle.std.proofs.lemmas.List.Edits.{length-insert, get_or-insert_below, get_or-insert_at, get_or-insert_above}
-use Rattle.std.proofs.lemmas.Bool.{both_ways, cond-true, cond-false, eqb-true, eq-eqb, ne_eqb, cases_lt, cases_order}
+use Rattle.std.proofs.Common.{◌≡◌, ℕ, ◌+◌, ◌<◌, ◌≤◌, Bool, true, false, cond, eqb, List, is_some, Some, None, Ok, Err, IfOk, OnErr, IsErrAnd, Option, Result, length, refl, sym, ap, ◌∙◌, arith, rules}
+use mathlib.Core.Path.{fun_ext}
+use Rattle.std.specs.BTreeMap.{BTreeMap, IsOrdered, get, is_at, btree_map_len}
+use Rattle.std.specs.Map.{lookup}
+use Rattle.std.specs.Ordering.{is_eq}
+use Rattle.notes.specs.declared.ids.NoteId.{NoteId}
+use Rattle.notes.specs.contracts.ids.NoteIdOrd.TheImpl.{cmp-value}
+use Rattle.std.proofs.Math.Path.{path_j}
+use Rattle.std.proofs.Math.Bridge.{le_prop}
+use Rattle.std.proofs.lemmas.Map.Keys.{IsStrictlySortedBy-prop}
 use Rattle.register.specs.Count.{put}
-use Rattle.register.proofs.Put.{put_twice, put_swapped}
-use Rattle.notes_table.specs.Places.{Rising, Finds, look}
+use Rattle.notes_table.specs.Views.{many, had, Puts}
+use Rattle.notes_table.specs.declared.unplaced.Unplaced.{Unplaced}
+use Rattle.notes_table.specs.declared.unplaced.Unplaced.TheVariants.{Memory}
+use Rattle.notes_table.specs.declared.table.Table.{Table}
 
--- k is met at the place i, and not before
-abbrev Hit : ℕ → List ℕ → ℕ → Type 0
-Hit k [] i = ⊥
-Hit k (n ∷ ns) zero = eqb k n ≡ true
-Hit k (n ∷ ns) (suc i) = (eqb k n ≡ false) × Hit k ns i
+-- a number is looked up as numbers are told apart
+is_number : (a b : NoteId) → is_eq (cmp-value.it a b) ≡ eqb a.0 b.0
+is_number a b = Prim.search rules
 
--- k is not met
-abbrev Missing : ℕ → List ℕ → Type 0
-Missing k [] = Unit {0}
-Missing k (n ∷ ns) = (eqb k n ≡ false) × Missing k ns
+is_changed : (a b : NoteId) → is_eq (cmp-value.it a b) ≡ eqb b.0 a.0
+is_changed a b = Prim.search rules
 
--- a number is met at its place, and not before
-hit : (ns : List ℕ) (k i : ℕ) → Rising ns → Finds ns k (Ok i) → Hit k ns i
-hit [] k i rising (within, is) = absurd (omega arith)
-hit (n ∷ ns) k zero rising (within, is) = eq-eqb k n (sym is)
-hit (n ∷ ns) k (suc i) rising (within, is) =
-    (ne_eqb k n (λ e. omega (arith, rising 0 (suc i) (omega arith) within)), hit ns k i (λ a b less end. rising (suc a) (suc b) (omega arith) (omega arith)) (omega arith, is))
+-- there is one more, unless b
+one_more : (b : Bool) (m n : ℕ) → n ≡ m + cond b 0 1 → n ≡ cond b m (m + 1)
+one_more true m n e = omega (arith, e)
+one_more false m n e = e
 
--- a number that stands nowhere
-nowhere : (ns : List ℕ) (k : ℕ) → ((j : ℕ) → j < length ns → get_or ns j 0 ≡ k → ⊥) → Missing k ns
-nowhere [] k never = tt
-nowhere (n ∷ ns) k never = (ne_eqb k n (λ e. never 0 (omega arith) (sym e)), nowhere ns k (λ j h. never (suc j) (omega arith)))
+at_most : (b : Bool) (m n : ℕ) → n ≡ m + cond b 0 1 → (b ≡ false → m < 4096) → m ≤ 4096 → n ≤ 4096
+at_most true m n e room few = omega (arith, e)
+at_most false m n e room few = omega (arith, e, room refl)
 
--- a number that would have a place has none
-missing : (ns : List ℕ) (k i : ℕ) → Finds ns k (Err i) → Missing k ns
-missing ns k i (within, below, above) = nowhere ns k (λ j h is. ⊎_elim (λ l. omega (arith, below j l)) (λ l. omega (arith, above j l h)) (cases_lt j i))
+module _ {T : Type 0} where
+  pub looked : (k : NoteId) (es : List (NoteId × T)) → lookup (is_at (cmp-value.it k)) es ≡ lookup (λ n. eqb k.0 n.0) es
+  looked k es = ap (λ (test : NoteId → Bool). lookup test es) (fun_ext (is_number k))
 
-pub look_none : {A : Type 0} → look {A = A} [] [] ≡ (λ _. None)
-unfolding look
-look_none = refl
+  -- what is found of each number
+  abbrev found : BTreeMap NoteId T → ℕ → Option T
+  found m k = lookup (λ n. eqb k n.0) m.entries
 
-apart : (k n : ℕ) → eqb k n ≡ false → n ≡ k → ⊥
-apart k n other same = both_ways (eqb k n) other (eq-eqb k n (sym same))
+  -- and once something was written under one
+  pub updated : (k : NoteId) (w : T) (m n : BTreeMap NoteId T) → ((q : NoteId) → get cmp-value.it n q ≡ cond (is_at (cmp-value.it k) q) (Some w) (get cmp-value.it m q)) → found n ≡ put k.0 (Some w) (found m)
+  updated k w m n h =
+      fun_ext (λ j.
+      let q : NoteId = record { 0 = j } in
+      sym (looked q n.entries) ∙ h q ∙ rw (is_changed k q, looked q m.entries) refl)
 
-look_hit : {A : Type 0} (k : ℕ) (d : A) (ns : List ℕ) (ys : List A) (i : ℕ) → Hit k ns i → i < length ys → look ns ys k ≡ Some (get_or ys i d)
-unfolding look
-look_hit k d [] ys i h l = absurd h
-look_hit k d (n ∷ ns) [] i h l = absurd (omega arith)
-look_hit k d (n ∷ ns) (y ∷ ys) zero h l = cond-true (eqb k n) (Some y) (look ns ys k) h
-look_hit k d (n ∷ ns) (y ∷ ys) (suc i) h l = cond-false (eqb k n) (Some y) (look ns ys k) h.0 ∙ look_hit k d ns ys i h.1 (omega arith)
+  -- two tables of the same entries
+  abbrev made : (m : BTreeMap NoteId T) → IsOrdered cmp-value.it m → btree_map_len m ≤ 4096 → Table T
+  made m rising few = record { notes = m; rising = rising; few = few }
 
-look_missing : {A : Type 0} (k : ℕ) (ns : List ℕ) (ys : List A) → Missing k ns → look ns ys k ≡ None
-unfolding look
-look_missing k [] ys h = refl
-look_missing k (n ∷ ns) [] h = refl
-look_missing k (n ∷ ns) (y ∷ ys) h = cond-false (eqb k n) (Some y) (look ns ys k) h.0 ∙ look_missing k ns ys h.1
+  pair_same : (t : Table T) (rising : IsOrdered cmp-value.it t.notes) (few : btree_map_len t.notes ≤ 4096) → ◌≡◌ {A = IsOrdered cmp-value.it t.notes × (btree_map_len t.notes ≤ 4096)} (t.rising, t.few) (rising, few)
+  pair_same t rising few = ap (λ p. (p, t.few)) (IsStrictlySortedBy-prop _ _ t.rising rising) ∙ ap (λ q. (rising, q)) (le_prop t.few few)
 
-look_changed : {A : Type 0} (k : ℕ) (w : A) (ns : List ℕ) (ys : List A) (i : ℕ) → Hit k ns i → i < length ys → look ns (set ys i w) ≡ put k (Some w) (look ns ys)
-unfolding look
-look_changed k w [] ys i h l = absurd h
-look_changed k w (n ∷ ns) [] i h l = absurd (omega arith)
-look_changed k w (n ∷ ns) (y ∷ ys) zero h l = rw (eqb-true k n h) (sym (put_twice n (Some w) (Some y) (look ns ys)))
-look_changed k w (n ∷ ns) (y ∷ ys) (suc i) h l =
-    ap (put n (Some y)) (look_changed k w ns ys i h.1 (omega arith)) ∙ put_swapped n k (Some y) (Some w) (look ns ys) (apart k n h.0)
+  pub same_table : (t u : Table T) → t.notes ≡ u.notes → t ≡ u
+  same_table t u e =
+      path_j (λ m _. (rising : IsOrdered cmp-value.it m) (few : btree_map_len m ≤ 4096) → t ≡ made m rising few) (λ rising few. ap (λ (p : IsOrdered cmp-value.it t.notes × (btree_map_len t.notes ≤ 4096)). made t.notes p.0 p.1) (pair_same t rising few)) e u.rising u.few
 
-look_added : {A : Type 0} (k : ℕ) (w : A) (i : ℕ) (ns : List ℕ) (ys : List A) → Missing k ns → length ys ≡ length ns → i ≤ length ns → look (insert ns i k) (insert ys i w) ≡ put k (Some w) (look ns ys)
-unfolding look
-look_added k w zero ns ys h pairs l = refl
-look_added k w (suc i) [] ys h pairs l = absurd (omega arith)
-look_added k w (suc i) (n ∷ ns) [] h pairs l = absurd (omega arith)
-look_added k w (suc i) (n ∷ ns) (y ∷ ys) h pairs l =
-    ap (put n (Some y)) (look_added k w i ns ys h.1 (omega arith) (omega arith)) ∙ put_swapped n k (Some y) (Some w) (look ns ys) (apart k n h.0)
+  -- whether something is had under a number, as the map says it
+  had_by : (k : NoteId) (t : Table T) (o : Option T) → o ≡ get cmp-value.it t.notes k → is_some o ≡ had t k.0
+  had_by k t o is = ap is_some (is ∙ looked k t.notes.entries)
 
--- what is found of a number, and what is found of any once something was put at the place of this one
-module _ {A : Type 0} (ns : List ℕ) (ys : List A) (k i : ℕ) where
-  pub found : (d : A) → Rising ns → length ys ≡ length ns → Finds ns k (Ok i) → look ns ys k ≡ Some (get_or ys i d)
-  found d rising pairs place = look_hit k d ns ys i (hit ns k i rising place) (omega (arith, place.0))
+  -- what comes of putting something under the number k, where there is a place for it
+  module _ (k : NoteId) (t : Table T) (room : had t k.0 ≡ false → many t < 4096) where
+    pub few_after : {E : Type 0} (n : BTreeMap NoteId T) (r : Result (Option T) E) → IfOk r (λ o. o ≡ get cmp-value.it t.notes k) → IfOk r (λ o. btree_map_len n ≡ many t + cond (is_some o) 0 1) → OnErr r (n.entries ≡ t.notes.entries) → btree_map_len n ≤ 4096
+    few_after n (Ok o) is len same = at_most (had t k.0) (many t) (btree_map_len n) (rw (had_by k t o is) at len) room t.few
+    few_after n (Err e) is len same = rw same t.few
 
-  pub absent : Finds ns k (Err i) → look ns ys k ≡ None
-  absent place = look_missing k ns ys (missing ns k i place)
+    -- it is there, in place of what was had
+    pub put_in : (w : T) (u : Table T) → ((q : NoteId) → get cmp-value.it u.notes q ≡ cond (is_at (cmp-value.it k) q) (Some w) (get cmp-value.it t.notes q)) → (o : Option T) → o ≡ get cmp-value.it t.notes k → many u ≡ many t + cond (is_some o) 0 1 → Puts k.0 w t u (Ok tt)
+    put_in w u h o is len = (updated k w t.notes u.notes h, one_more (had t k.0) (many t) (many u) (rw (had_by k t o is) at len), room)
 
-  pub look_set : (w : A) → Rising ns → length ys ≡ length ns → Finds ns k (Ok i) → look ns (set ys i w) ≡ put k (Some w) (look ns ys)
-  look_set w rising pairs place = look_changed k w ns ys i (hit ns k i rising place) (omega (arith, place.0))
-
-  pub look_inserted : (w : A) → length ys ≡ length ns → Finds ns k (Err i) → look (insert ns i k) (insert ys i w) ≡ put k (Some w) (look ns ys)
-  look_inserted w pairs place = look_added k w i ns ys (missing ns k i place) pairs place.0
-
--- something is had under a number that has a place
-pub held : {A : Type 0} (ns : List ℕ) (ys : List A) (k i : ℕ) → Rising ns → length ys ≡ length ns → Finds ns k (Ok i) → is_some (look ns ys k) ≡ true
-held ns [] k i rising pairs place = absurd (omega (arith, place.0))
-held ns (y ∷ ys) k i rising pairs place = ap is_some (found ns (y ∷ ys) k i y rising pairs place)
-
--- the order lasts where a number is put at the place that it would have
-pub rising_inserted : (ns : List ℕ) (k i : ℕ) → Rising ns → Finds ns k (Err i) → Rising (insert ns i k)
-rising_inserted ns k i rising (within, below, above) a b less end =
-    let long : length (insert ns i k) ≡ length ns + 1 = length-insert ns i k within in
-    ⊎_elim
-    (λ e. omega (arith, low a (omega arith), below a (omega arith), here, ap at e))
-    (⊎_elim
-    (λ l. omega (arith, low a (omega arith), low b l, rising a b less (omega arith)))
-    (λ g.
-    ⊎_elim
-    (λ e. omega (arith, here, ap at e, high b g, above (b - 1) (omega arith) (omega arith)))
-    (⊎_elim
-    (λ l. omega (arith, low a l, high b g, rising a (b - 1) (omega arith) (omega arith)))
-    (λ h. omega (arith, high a h, high b g, rising (a - 1) (b - 1) (omega arith) (omega arith))))
-    (cases_order a i)))
-    (cases_order b i)
-  where
-    at : ℕ → ℕ
-    at j = get_or (insert ns i k) j 0
-
-    low : (j : ℕ) → j < i → at j ≡ get_or ns j 0
-    low j l = get_or-insert_below ns i k 0 j l within
-
-    here : at i ≡ k
-    here = get_or-insert_at ns i k 0 within
-
-    high : (j : ℕ) → i < j → at j ≡ get_or ns (j - 1) 0
-    high j l = let e : j ≡ (j - 1) + 1 = omega arith in ap at e ∙ get_or-insert_above ns i k 0 (j - 1) (omega arith) within
+    -- there is no memory
+    pub unplaced : (w : T) (u : Table T) (r : Result (Unit {0}) Unplaced) → IsErrAnd r (λ e. e ≡ Memory) → u.notes.entries ≡ t.notes.entries → get cmp-value.it t.notes k ≡ None → Puts k.0 w t u r
+    unplaced w u (Ok x) is same absent = absurd is
+    unplaced w u (Err e) is same absent =
+        let new : false ≡ had t k.0 = had_by k t None (sym absent) in
+        rw is ((ap (λ es. λ j. lookup (λ n. eqb j n.0) es) same, ap length same), sym new, room (sym new))

@@ -1,19 +1,20 @@
 -- A table as a finite map from numbers.
 -- Assumes nothing.
-use Rattle.std.specs.Prelude.{◌≡◌, ℕ, ◌+◌, ◌<◌, Bool, true, false, cond, length, is_some, Some, Ok, Err, vec_items, vec_len, vec_capacity, Option, Result}
+use Rattle.std.specs.Prelude.{◌≡◌, ℕ, ◌+◌, ◌<◌, Bool, true, false, cond, is_some, Some, Ok, Err, Option, Result, ◌==◌}
+use Rattle.std.specs.BTreeMap.{btree_map_len}
+use Rattle.std.specs.Map.{lookup}
 use Rattle.register.specs.Count.{put}
-use Rattle.notes_table.specs.Places.{look}
-use Rattle.notes_table.specs.declared.kept.table.Table.{Table}
+use Rattle.notes_table.specs.declared.table.Table.{Table}
 use Rattle.notes_table.specs.declared.unplaced.Unplaced.{Unplaced}
 use Rattle.notes_table.specs.declared.unplaced.Unplaced.TheVariants.{Full, Memory}
 
 -- what is had under each number
 abbrev pub map_of : {T : Type 0} → Table T → ℕ → Option T
-map_of t = look (vec_items t.numbers) (vec_items t.items)
+map_of t k = lookup (λ n. k == n.0) t.notes.entries
 
 -- how many numbers have something
 abbrev pub many : {T : Type 0} → Table T → ℕ
-many t = length (vec_items t.numbers)
+many t = btree_map_len t.notes
 
 -- whether something is had under the number k
 abbrev pub had : {T : Type 0} → Table T → ℕ → Bool
@@ -38,7 +39,3 @@ abbrev pub Puts : {T : Type 0} → ℕ → T → Table T → Table T → Result 
 Puts k w t u (Ok _) = (map_of u ≡ put k (Some w) (map_of t)) × (many u ≡ cond (had t k) (many t) (many t + 1)) × (had t k ≡ false → many t < 4096)
 Puts k w t u (Err Full) = Same t u × (had t k ≡ false) × (many t ≡ 4096)
 Puts k w t u (Err Memory) = Same t u × (had t k ≡ false) × (many t < 4096)
-
--- there is room for one more
-abbrev pub Roomy : {T : Type 0} → Table T → Type 0
-Roomy t = (vec_len t.numbers < vec_capacity t.numbers) × (vec_len t.items < vec_capacity t.items)

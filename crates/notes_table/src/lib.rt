@@ -1,7 +1,6 @@
 // Tables of things by the numbers of notes.
 #![tactic(auto)]
 
-pub mod kept;
 pub mod laws;
 pub mod table;
 pub mod unplaced;
