@@ -1,6 +1,6 @@
 -- What the code's values say, as the rules have it; the number of each refusal.
 -- Assumes nothing.
-use Rattle.std.specs.Prelude.{◌≡◌, ℕ}
+use Rattle.std.specs.Prelude.{◌≡◌, ℕ, Ok, Err, Result}
 use Rattle.notes.specs.Views.{note_of}
 use Rattle.protocol.specs.Message as rules
 use Rattle.protocol.specs.Step as steps
@@ -13,12 +13,12 @@ use Rattle.parties.specs.declared.message.Sends.{Sends}
 use Rattle.parties.specs.declared.message.Sends.TheVariants as sends
 use Rattle.parties.specs.declared.refusal.Refusal.{Refusal}
 use Rattle.parties.specs.declared.refusal.Refusal.TheVariants as refusals
-use Rattle.parties.specs.declared.step.WardenOutcome.{WardenOutcome}
-use Rattle.parties.specs.declared.step.WardenOutcome.TheVariants as warden_outcomes
-use Rattle.parties.specs.declared.step.OfficeOutcome.{OfficeOutcome}
-use Rattle.parties.specs.declared.step.OfficeOutcome.TheVariants as office_outcomes
-use Rattle.parties.specs.declared.step.ReaderOutcome.{ReaderOutcome}
-use Rattle.parties.specs.declared.step.ReaderOutcome.TheVariants as reader_outcomes
+use Rattle.parties.specs.declared.step.WardenDone.{WardenDone}
+use Rattle.parties.specs.declared.step.WardenDone.TheVariants as warden_case
+use Rattle.parties.specs.declared.step.OfficeDone.{OfficeDone}
+use Rattle.parties.specs.declared.step.OfficeDone.TheVariants as office_case
+use Rattle.parties.specs.declared.step.ReaderDone.{ReaderDone}
+use Rattle.parties.specs.declared.step.ReaderDone.TheVariants as reader_case
 
 -- THE NUMBERS OF THE REFUSALS
 abbrev pub number_of : Refusal → ℕ
@@ -29,29 +29,40 @@ number_of refusals.NotCounted = 4
 number_of refusals.NotNow = 5
 number_of refusals.NoRoom = 6
 
-abbrev pub warden_outcome : WardenOutcome → steps.Outcome wardens.WardenDone
-warden_outcome warden_outcomes.Taken = steps.Done wardens.taken
-warden_outcome warden_outcomes.Answered = steps.Done wardens.answered
-warden_outcome (warden_outcomes.Refused r) = steps.Refused (number_of r)
+-- what was done, or the number of the refusal
+abbrev pub outcome_of : {C D : Type 0} → (C → D) → Result C Refusal → steps.Outcome D
+outcome_of done (Ok c) = steps.Done (done c)
+outcome_of done (Err r) = steps.Refused (number_of r)
 
-abbrev pub office_outcome : OfficeOutcome → steps.Outcome offices.OfficeDone
-office_outcome office_outcomes.Begun = steps.Done offices.begun
-office_outcome office_outcomes.Resent = steps.Done offices.resent
-office_outcome office_outcomes.NoWriting = steps.Done offices.no_writing
-office_outcome office_outcomes.Counted = steps.Done offices.counted
-office_outcome office_outcomes.Ended = steps.Done offices.ended
-office_outcome (office_outcomes.Refused r) = steps.Refused (number_of r)
+abbrev pub warden_done : WardenDone → wardens.WardenDone
+warden_done warden_case.Taken = wardens.taken
+warden_done warden_case.Answered = wardens.answered
 
-abbrev pub reader_outcome : ReaderOutcome → steps.Outcome readers.ReaderDone
-reader_outcome reader_outcomes.Asked = steps.Done readers.asked
-reader_outcome reader_outcomes.AskedAgain = steps.Done readers.asked_again
-reader_outcome reader_outcomes.Retried = steps.Done readers.retried
-reader_outcome reader_outcomes.NoReading = steps.Done readers.no_reading
-reader_outcome reader_outcomes.Heard = steps.Done readers.heard
-reader_outcome reader_outcomes.Undecided = steps.Done readers.undecided
-reader_outcome (reader_outcomes.Read x) = steps.Done (readers.read (note_of x))
-reader_outcome reader_outcomes.Unsure = steps.Done readers.unsure
-reader_outcome (reader_outcomes.Refused r) = steps.Refused (number_of r)
+abbrev pub office_done : OfficeDone → offices.OfficeDone
+office_done office_case.Begun = offices.begun
+office_done office_case.Resent = offices.resent
+office_done office_case.NoWriting = offices.no_writing
+office_done office_case.Counted = offices.counted
+office_done office_case.Ended = offices.ended
+
+abbrev pub reader_done : ReaderDone → readers.ReaderDone
+reader_done reader_case.Asked = readers.asked
+reader_done reader_case.AskedAgain = readers.asked_again
+reader_done reader_case.Retried = readers.retried
+reader_done reader_case.NoReading = readers.no_reading
+reader_done reader_case.Heard = readers.heard
+reader_done reader_case.Undecided = readers.undecided
+reader_done (reader_case.Read x) = readers.read (note_of x)
+reader_done reader_case.Unsure = readers.unsure
+
+abbrev pub warden_outcome : Result WardenDone Refusal → steps.Outcome wardens.WardenDone
+warden_outcome = outcome_of warden_done
+
+abbrev pub office_outcome : Result OfficeDone Refusal → steps.Outcome offices.OfficeDone
+office_outcome = outcome_of office_done
+
+abbrev pub reader_outcome : Result ReaderDone Refusal → steps.Outcome readers.ReaderDone
+reader_outcome = outcome_of reader_done
 
 -- WHAT IS SENT
 abbrev pub message_of : Message → rules.Message

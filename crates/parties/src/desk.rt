@@ -5,12 +5,10 @@ ghost use Rattle.protocol.specs.Office.{empty_desk, write_on, office_tick, offic
 ghost use Rattle.protocol.specs.Runs.{OfficeHears, OfficeActs};
 ghost use Rattle.parties.specs.Views.{message_of, sends_of, office_outcome, made, Did};
 ghost use Rattle.parties.specs.Desks.{desk_of};
-ghost use Rattle.parties.specs.declared.message.Sends.TheVariants.{Nothing};
-ghost use Rattle.parties.specs.declared.step.OfficeOutcome.TheVariants.{Refused};
 
 use crate::message::{Message, Sends};
 use crate::refusal::Refusal;
-use crate::step::{OfficeOutcome, OfficeStep};
+use crate::step::{OfficeDone, OfficeStep, Step};
 use notes::ids::{Edition, PartyId};
 use notes::note::Note;
 use notes::quorum::Quorum;
@@ -50,17 +48,17 @@ impl Desk {
         ensures { Did (desk_of self.exit.now) (sends_of result.sends) (office_outcome result.outcome) (write_on (desk_of self.entry.now) (bytes_of value)) }
     {
         if self.busy {
-            return refused(Refusal::NotNow);
+            return Step::refused(Refusal::NotNow);
         }
         let Some(edition) = self.now.edition.next() else {
-            return refused(Refusal::NotNow);
+            return Step::refused(Refusal::NotNow);
         };
         let note = Note { edition, value };
         self.now = note;
         self.busy = true;
         self.acks = WardenSet::new();
-        OfficeStep {
-            outcome: OfficeOutcome::Begun,
+        Step {
+            outcome: Ok(OfficeDone::Begun),
             sends: Sends::Each(Message::Take(note)),
         }
     }
@@ -77,15 +75,12 @@ impl Desk {
         ensures { Did (desk_of self.entry.now) (sends_of result.sends) (office_outcome result.outcome) (office_tick (desk_of self.entry.now)) }
     {
         if self.busy {
-            OfficeStep {
-                outcome: OfficeOutcome::Resent,
+            Step {
+                outcome: Ok(OfficeDone::Resent),
                 sends: Sends::Each(Message::Take(self.now)),
             }
         } else {
-            OfficeStep {
-                outcome: OfficeOutcome::NoWriting,
-                sends: Sends::Nothing,
-            }
+            Step::done(OfficeDone::NoWriting)
         }
     }
 
@@ -101,10 +96,10 @@ impl Desk {
         ensures { Did (desk_of self.exit.now) (sends_of result.sends) (office_outcome result.outcome) (office_on quorum.now.wardens quorum.now.faults (desk_of self.entry.now) from.0 (message_of message)) }
     {
         let Message::Took(edition) = message else {
-            return refused(Refusal::Malformed);
+            return Step::refused(Refusal::Malformed);
         };
         let Some(warden) = quorum.warden(from) else {
-            return refused(Refusal::Malformed);
+            return Step::refused(Refusal::Malformed);
         };
         self.took(quorum, warden, edition)
     }
@@ -113,29 +108,14 @@ impl Desk {
     fn took(&mut self, quorum: &Quorum, warden: WardenId, edition: Edition) -> OfficeStep
         ensures { Did (desk_of self.exit.now) (sends_of result.sends) (office_outcome result.outcome) (took_on quorum.now.wardens quorum.now.faults (desk_of self.entry.now) warden.index edition.0) }
     {
-        if !self.busy || !edition.is(self.now.edition) || self.acks.contains(warden) {
-            return refused(Refusal::NotCounted);
+        if !self.busy || edition != self.now.edition || self.acks.contains(warden) {
+            return Step::refused(Refusal::NotCounted);
         }
         self.acks = self.acks.with(warden);
         if quorum.is_met(self.acks) {
             self.busy = false;
-            return quiet(OfficeOutcome::Ended);
+            return Step::done(OfficeDone::Ended);
         }
-        quiet(OfficeOutcome::Counted)
+        Step::done(OfficeDone::Counted)
     }
-}
-
-fn quiet(outcome: OfficeOutcome) -> OfficeStep
-    ensures { result ≡ record { outcome = outcome; sends = Nothing } }
-{
-    OfficeStep {
-        outcome,
-        sends: Sends::Nothing,
-    }
-}
-
-fn refused(refusal: Refusal) -> OfficeStep
-    ensures { result ≡ record { outcome = Refused refusal; sends = Nothing } }
-{
-    quiet(OfficeOutcome::Refused(refusal))
 }

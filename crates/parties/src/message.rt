@@ -1,8 +1,8 @@
 // What the parties say to one another.
-use notes::ids::{Edition, PartyId, RoundNumber};
+use notes::ids::{Edition, NoteId, PartyId, RoundNumber};
 use notes::note::Note;
 
-#[derive(Clone, Copy)]
+#[derive(Clone, Copy, PartialEq, Eq)]
 pub enum Message {
     /// The office to a warden: take this note.
     Take(Note),
@@ -14,8 +14,16 @@ pub enum Message {
     Told(RoundNumber, Note),
 }
 
+/// A message about a note, and from whom it comes.
+#[derive(Clone, Copy, PartialEq, Eq)]
+pub struct Incoming {
+    pub from: PartyId,
+    pub note: NoteId,
+    pub message: Message,
+}
+
 /// What a party sends at once.
-#[derive(Clone, Copy)]
+#[derive(Clone, Copy, PartialEq, Eq)]
 pub enum Sends {
     Nothing,
     One(PartyId, Message),

@@ -1,18 +1,15 @@
 // A reader: it reads one note at a time, in rounds.
 ghost use Rattle.std.specs.Prelude.{◌≡◌, ℕ, ◌-◌};
 ghost use Rattle.notes.specs.Views.{note_of};
-ghost use Rattle.protocol.specs.Step.{Done};
-ghost use Rattle.protocol.specs.Reader.{ReaderDone, new_reader, read_on, reader_tick, reader_on, told_on, begin_round, decided, settle_round};
+ghost use Rattle.protocol.specs.Reader.{new_reader, read_on, reader_tick, reader_on, told_on, begin_round, decided, settle_round};
 ghost use Rattle.protocol.specs.Runs.{ReaderHears, ReaderActs};
-ghost use Rattle.parties.specs.Views.{message_of, sends_of, reader_outcome, made, Did};
+ghost use Rattle.parties.specs.Views.{message_of, sends_of, reader_done, reader_outcome, made, Did};
 ghost use Rattle.parties.specs.Readers.{reader_of};
-ghost use Rattle.parties.specs.declared.message.Sends.TheVariants.{Nothing};
-ghost use Rattle.parties.specs.declared.step.ReaderOutcome.TheVariants.{Refused};
 
-use crate::message::{Message, Sends};
+use crate::message::{Incoming, Message, Sends};
 use crate::refusal::Refusal;
-use crate::step::{ReaderOutcome, ReaderStep};
-use notes::ids::{NoteId, PartyId, RoundNumber};
+use crate::step::{ReaderDone, ReaderStep, Step};
+use notes::ids::{NoteId, RoundNumber};
 use notes::note::Note;
 use notes::quorum::Quorum;
 use notes::round::Round;
@@ -49,12 +46,12 @@ impl Reader {
     }
 
     // A round of a reading begins.
-    fn begin(&mut self, note: NoteId, left: u8, outcome: ReaderOutcome) -> ReaderStep
+    fn begin(&mut self, note: NoteId, left: u8, done: ReaderDone) -> ReaderStep
         ensures quorum { self.new.quorum ≡ self.old.quorum }
-        ensures did { (how : ReaderDone) → reader_outcome outcome ≡ Done how → Did (reader_of self.new) (sends_of result.sends) (reader_outcome result.outcome) (begin_round note.0 left how (reader_of self.old)) }
+        ensures did { Did (reader_of self.new) (sends_of result.sends) (reader_outcome result.outcome) (begin_round note.0 left (reader_done done) (reader_of self.old)) }
     {
         let Some(next) = self.next.next() else {
-            return refused(Refusal::NotNow);
+            return Step::refused(Refusal::NotNow);
         };
         let number = self.next;
         self.busy = true;
@@ -62,8 +59,8 @@ impl Reader {
         self.left = left;
         self.next = next;
         self.round = Round::new(number);
-        ReaderStep {
-            outcome,
+        Step {
+            outcome: Ok(done),
             sends: Sends::Each(Message::Ask(number)),
         }
     }
@@ -74,7 +71,7 @@ impl Reader {
         ensures did { Did (reader_of self.new) (sends_of result.sends) (reader_outcome result.outcome) (read_on (reader_of self.old) note.0) }
         ensures runs { ReaderActs self.old.quorum.wardens self.old.quorum.faults (reader_of self.old) (made (reader_of self.new) (sends_of result.sends) (reader_outcome result.outcome)) }
     {
-        self.begin(note, MORE_ROUNDS, ReaderOutcome::Asked)
+        self.begin(note, MORE_ROUNDS, ReaderDone::Asked)
     }
 
     /// It is time to ask again, or to begin the next round.
@@ -91,41 +88,37 @@ impl Reader {
         ensures did { Did (reader_of self.new) (sends_of result.sends) (reader_outcome result.outcome) (reader_tick self.old.quorum.wardens self.old.quorum.faults (reader_of self.old)) }
     {
         if !self.busy {
-            return quiet(ReaderOutcome::NoReading);
+            return Step::done(ReaderDone::NoReading);
         }
         if self.is_decided() {
-            return self.begin(
-                self.note,
-                self.left.saturating_sub(1),
-                ReaderOutcome::Retried,
-            );
+            return self.begin(self.note, self.left.saturating_sub(1), ReaderDone::Retried);
         }
-        ReaderStep {
-            outcome: ReaderOutcome::AskedAgain,
+        Step {
+            outcome: Ok(ReaderDone::AskedAgain),
             sends: Sends::Each(Message::Ask(self.round.number)),
         }
     }
 
-    /// What it does with a message from a party about a note.
-    pub fn on(&mut self, from: PartyId, note: NoteId, message: Message) -> ReaderStep
+    /// What it does with a message.
+    pub fn on(&mut self, incoming: Incoming) -> ReaderStep
         ensures quorum { self.new.quorum ≡ self.old.quorum }
-        ensures did { Did (reader_of self.new) (sends_of result.sends) (reader_outcome result.outcome) (reader_on self.old.quorum.wardens self.old.quorum.faults (reader_of self.old) from.0 note.0 (message_of message)) }
-        ensures runs { ReaderHears self.old.quorum.wardens self.old.quorum.faults (reader_of self.old) from.0 note.0 (message_of message) (made (reader_of self.new) (sends_of result.sends) (reader_outcome result.outcome)) }
+        ensures did { Did (reader_of self.new) (sends_of result.sends) (reader_outcome result.outcome) (reader_on self.old.quorum.wardens self.old.quorum.faults (reader_of self.old) incoming.from.0 incoming.note.0 (message_of incoming.message)) }
+        ensures runs { ReaderHears self.old.quorum.wardens self.old.quorum.faults (reader_of self.old) incoming.from.0 incoming.note.0 (message_of incoming.message) (made (reader_of self.new) (sends_of result.sends) (reader_outcome result.outcome)) }
     {
-        self.receive(from, note, message)
+        self.receive(incoming)
     }
 
-    fn receive(&mut self, from: PartyId, note: NoteId, message: Message) -> ReaderStep
+    fn receive(&mut self, incoming: Incoming) -> ReaderStep
         ensures quorum { self.new.quorum ≡ self.old.quorum }
-        ensures did { Did (reader_of self.new) (sends_of result.sends) (reader_outcome result.outcome) (reader_on self.old.quorum.wardens self.old.quorum.faults (reader_of self.old) from.0 note.0 (message_of message)) }
+        ensures did { Did (reader_of self.new) (sends_of result.sends) (reader_outcome result.outcome) (reader_on self.old.quorum.wardens self.old.quorum.faults (reader_of self.old) incoming.from.0 incoming.note.0 (message_of incoming.message)) }
     {
-        let Message::Told(round, what) = message else {
-            return refused(Refusal::Malformed);
+        let Message::Told(round, what) = incoming.message else {
+            return Step::refused(Refusal::Malformed);
         };
-        let Some(warden) = self.quorum.warden(from) else {
-            return refused(Refusal::Malformed);
+        let Some(warden) = self.quorum.warden(incoming.from) else {
+            return Step::refused(Refusal::Malformed);
         };
-        self.told(warden, note, round, what)
+        self.told(warden, incoming.note, round, what)
     }
 
     // So many wardens have told in the present round that it is decided.
@@ -141,12 +134,12 @@ impl Reader {
         ensures did { Did (reader_of self.new) (sends_of result.sends) (reader_outcome result.outcome) (told_on self.old.quorum.wardens self.old.quorum.faults (reader_of self.old) warden.index note.0 round.0 (note_of what)) }
     {
         if !self.busy
-            || !note.is(self.note)
-            || !round.is(self.round.number)
+            || note != self.note
+            || round != self.round.number
             || self.round.heard.contains(warden)
             || self.is_decided()
         {
-            return refused(Refusal::NotAwaited);
+            return Step::refused(Refusal::NotAwaited);
         }
         self.round = self.round.hear(warden, what);
         self.settle()
@@ -158,32 +151,17 @@ impl Reader {
         ensures did { Did (reader_of self.new) (sends_of result.sends) (reader_outcome result.outcome) (settle_round self.old.quorum.wardens self.old.quorum.faults (reader_of self.old)) }
     {
         if !self.is_decided() {
-            return quiet(ReaderOutcome::Heard);
+            return Step::done(ReaderDone::Heard);
         }
         if let Some(note) = self.round.read(&self.quorum) {
             let note = *note;
             self.busy = false;
-            return quiet(ReaderOutcome::Read(note));
+            return Step::done(ReaderDone::Read(note));
         }
         if self.left > 0 {
-            return quiet(ReaderOutcome::Undecided);
+            return Step::done(ReaderDone::Undecided);
         }
         self.busy = false;
-        quiet(ReaderOutcome::Unsure)
+        Step::done(ReaderDone::Unsure)
     }
-}
-
-fn quiet(outcome: ReaderOutcome) -> ReaderStep
-    ensures { result ≡ record { outcome = outcome; sends = Nothing } }
-{
-    ReaderStep {
-        outcome,
-        sends: Sends::Nothing,
-    }
-}
-
-fn refused(refusal: Refusal) -> ReaderStep
-    ensures { result ≡ record { outcome = Refused refusal; sends = Nothing } }
-{
-    quiet(ReaderOutcome::Refused(refusal))
 }

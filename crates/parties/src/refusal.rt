@@ -1,8 +1,6 @@
 // Why something is turned away or passed over.
-ghost use Rattle.std.specs.Prelude.{◌≡◌};
-ghost use Rattle.parties.specs.Views.{number_of};
 
-#[derive(Clone, Copy)]
+#[derive(Clone, Copy, PartialEq, Eq, Debug)]
 pub enum Refusal {
     /// Not a message that this party takes from that sender.
     Malformed,
@@ -18,12 +16,15 @@ pub enum Refusal {
     NoRoom,
 }
 
-impl Refusal {
-    /// The number by which it is told.
-    pub fn number(self) -> u8
-        ensures { result ≡ number_of self }
-    {
-        match self {
+// The number by which it is told.
+impl From<Refusal> for u8 {
+    ghost use Rattle.std.specs.Prelude.{◌≡◌};
+    ghost use Rattle.parties.specs.Views.{number_of};
+
+    ghost from_gives = { λ refusal number. number ≡ number_of refusal };
+
+    fn from(refusal: Refusal) -> u8 {
+        match refusal {
             Refusal::Malformed => 1,
             Refusal::NotAbove => 2,
             Refusal::NotAwaited => 3,

@@ -2,8 +2,7 @@
 ghost use Rattle.std.specs.Prelude.{◌≡◌, ℕ, ◌*◌, ◌<◌};
 ghost use Rattle.register.specs.Note.{none};
 ghost use Rattle.notes.specs.Views.{note_of};
-ghost use Rattle.protocol.specs.Message.{Nothing, One, Took};
-ghost use Rattle.protocol.specs.Step.{Refused};
+ghost use Rattle.protocol.specs.Message.{One, Took};
 ghost use Rattle.protocol.specs.Warden.{warden_on, ask_on};
 ghost use Rattle.protocol.specs.Runs.{WardenHears};
 ghost use Rattle.parties.specs.Views.{message_of, sends_of, warden_outcome, made, Did};
@@ -11,7 +10,7 @@ ghost use Rattle.parties.specs.Standings.{standing_of};
 
 use crate::message::{Message, Sends};
 use crate::refusal::Refusal;
-use crate::step::{WardenOutcome, WardenStep};
+use crate::step::{Step, WardenDone, WardenOutcome, WardenStep};
 use notes::ids::{Edition, OFFICE, PartyId, RoundNumber};
 use notes::note::Note;
 
@@ -45,7 +44,7 @@ impl Slot {
             Message::Ask(_) => self.held.edition,
             Message::Told(_, note) => note.edition,
         };
-        if edition.is_above(self.held.edition) {
+        if edition > self.held.edition {
             Standing::Above
         } else {
             Standing::NotAbove
@@ -67,18 +66,22 @@ impl Slot {
             Standing::Above => match message {
                 Message::Take(note) if from.is_office() => {
                     self.held = note;
-                    took(note.edition, WardenOutcome::Taken)
+                    took(note.edition, Ok(WardenDone::Taken))
                 }
                 Message::Ask(round) => self.told(from, round),
-                Message::Take(_) | Message::Took(_) | Message::Told(_, _) => malformed(),
+                Message::Take(_) | Message::Took(_) | Message::Told(_, _) => Step::refused(
+                    Refusal::Malformed,
+                ),
             },
             Standing::NotAbove => match message {
                 Message::Take(note) if from.is_office() => took(
                     note.edition,
-                    WardenOutcome::Refused(Refusal::NotAbove),
+                    Err(Refusal::NotAbove),
                 ),
                 Message::Ask(round) => self.told(from, round),
-                Message::Take(_) | Message::Took(_) | Message::Told(_, _) => malformed(),
+                Message::Take(_) | Message::Took(_) | Message::Told(_, _) => Step::refused(
+                    Refusal::Malformed,
+                ),
             },
         }
     }
@@ -86,8 +89,8 @@ impl Slot {
     fn told(&self, to: PartyId, round: RoundNumber) -> WardenStep
         ensures { Did (note_of self.now.held) (sends_of result.sends) (warden_outcome result.outcome) (ask_on (note_of self.now.held) to.0 round.0) }
     {
-        WardenStep {
-            outcome: WardenOutcome::Answered,
+        Step {
+            outcome: Ok(WardenDone::Answered),
             sends: Sends::One(to, Message::Told(round, self.held)),
         }
     }
@@ -98,19 +101,8 @@ fn took(edition: Edition, outcome: WardenOutcome) -> WardenStep
     ensures sends { sends_of result.sends ≡ One 63 (Took edition.0) }
     ensures outcome { result.outcome ≡ outcome }
 {
-    WardenStep {
+    Step {
         outcome,
-        sends: Sends::One(PartyId(OFFICE), Message::Took(edition)),
-    }
-}
-
-// It is no message that a warden takes from that sender.
-fn malformed() -> WardenStep
-    ensures sends { sends_of result.sends ≡ Nothing }
-    ensures outcome { warden_outcome result.outcome ≡ Refused 1 }
-{
-    WardenStep {
-        outcome: WardenOutcome::Refused(Refusal::Malformed),
-        sends: Sends::Nothing,
+        sends: Sends::One(OFFICE, Message::Took(edition)),
     }
 }

@@ -1,19 +1,21 @@
 // What a party came to when something came to it.
+ghost use Rattle.std.specs.Prelude.{◌≡◌, Ok, Err};
+ghost use Rattle.parties.specs.declared.message.Sends.TheVariants.{Nothing};
+
 use crate::message::Sends;
 use crate::refusal::Refusal;
 use notes::note::Note;
 
-#[derive(Clone, Copy)]
-pub enum WardenOutcome {
+#[derive(Clone, Copy, PartialEq, Eq, Debug)]
+pub enum WardenDone {
     /// It took a later edition.
     Taken,
     /// It told what it has.
     Answered,
-    Refused(Refusal),
 }
 
-#[derive(Clone, Copy)]
-pub enum OfficeOutcome {
+#[derive(Clone, Copy, PartialEq, Eq, Debug)]
+pub enum OfficeDone {
     /// It began to write an edition.
     Begun,
     /// It sent the edition that is being written again.
@@ -24,11 +26,10 @@ pub enum OfficeOutcome {
     Counted,
     /// With this warden the writing has come to an end.
     Ended,
-    Refused(Refusal),
 }
 
-#[derive(Clone, Copy)]
-pub enum ReaderOutcome {
+#[derive(Clone, Copy, PartialEq, Eq)]
+pub enum ReaderDone {
     /// It began to read a note.
     Asked,
     /// It asked again in the same round.
@@ -45,23 +46,46 @@ pub enum ReaderOutcome {
     Read(Note),
     /// With this warden the last round was decided, and nothing is read.
     Unsure,
-    Refused(Refusal),
 }
 
-#[derive(Clone, Copy)]
-pub struct WardenStep {
-    pub outcome: WardenOutcome,
+/// What was done, or why nothing was.
+pub type WardenOutcome = Result<WardenDone, Refusal>;
+
+pub type OfficeOutcome = Result<OfficeDone, Refusal>;
+
+pub type ReaderOutcome = Result<ReaderDone, Refusal>;
+
+/// What a party came to, and what it sends at once. It may send something also where it refuses.
+#[derive(Clone, Copy, PartialEq, Eq)]
+pub struct Step<D> {
+    pub outcome: Result<D, Refusal>,
     pub sends: Sends,
 }
 
-#[derive(Clone, Copy)]
-pub struct OfficeStep {
-    pub outcome: OfficeOutcome,
-    pub sends: Sends,
+impl<D> Step<D> {
+    /// It is done, and nothing is sent.
+    pub fn done(done: D) -> Step<D>
+        ensures { result ≡ record { outcome = Ok done; sends = Nothing } }
+    {
+        Step {
+            outcome: Ok(done),
+            sends: Sends::Nothing,
+        }
+    }
+
+    /// It is turned away or passed over, and nothing is sent.
+    pub fn refused(refusal: Refusal) -> Step<D>
+        ensures { result ≡ record { outcome = Err refusal; sends = Nothing } }
+    {
+        Step {
+            outcome: Err(refusal),
+            sends: Sends::Nothing,
+        }
+    }
 }
 
-#[derive(Clone, Copy)]
-pub struct ReaderStep {
-    pub outcome: ReaderOutcome,
-    pub sends: Sends,
-}
+pub type WardenStep = Step<WardenDone>;
+
+pub type OfficeStep = Step<OfficeDone>;
+
+pub type ReaderStep = Step<ReaderDone>;

@@ -1,5 +1,3 @@
-use mathlib.Core.Path.{refl}
-use Rattle.protocol.specs.Reader.{asked}
 use Rattle.protocol.specs.Runs.{ReaderActs}
 use Rattle.protocol.proofs.Runs.{reader_reads}
 use Rattle.parties.specs.Readers.{reader_of}
@@ -10,7 +8,7 @@ pub returns : goal.returns
 returns c =
     let reader = reader_of c.args.self.now in
     let quorum = c.args.self.now.quorum in
-    let did = c.begin.ensures.did asked refl in
+    let did = c.begin.ensures.did in
     record {
       quorum = c.begin.ensures.quorum;
       did = did;
