@@ -2,7 +2,7 @@
 ghost use Rattle.std.specs.Prelude.{◌≡◌};
 ghost use Rattle.notes_table.specs.declared.unplaced.Unplaced.TheVariants.{Memory};
 
-use std::alloc::AllocFailed;
+use std::alloc::{AllocError, AllocFailed};
 
 /// Nothing was changed.
 #[derive(Clone, Copy, PartialEq, Eq, Debug)]
@@ -11,6 +11,14 @@ pub enum Unplaced {
     Full,
     /// There is no memory for one more.
     Memory,
+}
+
+impl From<AllocError> for Unplaced {
+    ghost from_gives = { λ _ r. r ≡ Memory };
+
+    fn from(_: AllocError) -> Unplaced {
+        Unplaced::Memory
+    }
 }
 
 impl<T: Drop> From<AllocFailed<T>> for Unplaced {

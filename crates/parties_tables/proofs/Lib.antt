@@ -1,2 +1,3 @@
 mod Along
 mod Lists
+mod Tables

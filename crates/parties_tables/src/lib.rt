@@ -1,6 +1,6 @@
 // The warden and the office, with their tables of notes.
 #![tactic(auto)]
 
-pub mod no_memory;
 pub mod office;
+mod room;
 pub mod warden;

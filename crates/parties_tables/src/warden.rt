@@ -1,5 +1,5 @@
 // A warden: it has many notes.
-ghost use Rattle.std.specs.Prelude.{◌≡◌, ℕ, ◌*◌, ◌<◌, true, false, IfOk, MatchResult};
+ghost use Rattle.std.specs.Prelude.{◌≡◌, ℕ, ◌*◌, ◌<◌, IfOk, MatchResult};
 ghost use Rattle.register.specs.Note.{none};
 ghost use Rattle.notes.specs.Views.{note_of};
 ghost use Rattle.parties.specs.Views.{message_of, sends_of, warden_outcome, made, Did};
@@ -9,16 +9,15 @@ ghost use Rattle.protocol_tables.specs.Runs.{WardenHears};
 ghost use Rattle.parties_tables.specs.Keeps.{Stored};
 ghost use Rattle.parties_tables.specs.Wardens.{notes_of};
 
-use crate::no_memory::NoMemory;
-use notes::ids::{NoteId, PartyId};
+use crate::room::if_placed;
+use notes::ids::NoteId;
 use notes::note::Note;
 use notes_table::table::Table;
 use notes_table::unplaced::Unplaced;
-use parties::message::{Message, Sends};
-use parties::refusal::Refusal;
+use parties::message::Incoming;
 use parties::slot::Slot;
-use parties::step::{WardenOutcome, WardenStep};
-use std::alloc::Global;
+use parties::step::{WardenDone, WardenStep};
+use std::alloc::{AllocError, Global};
 
 /// What it has of each note.
 #[derive(Drop)]
@@ -40,57 +39,34 @@ impl Warden {
     pub fn note(&self, number: NoteId) -> Note
         ensures { note_of result ≡ (notes_of self.now).at number.0 }
     {
-        match self.notes.get(number) {
-            Some(note) => note,
-            None => Note::none(),
-        }
+        self.notes.get(number).unwrap_or(Note::none())
     }
 
     /// What it does with a message about a note.
-    pub fn on(
-        &mut self,
-        from: PartyId,
-        number: NoteId,
-        message: Message,
-    ) -> Result<WardenStep, NoMemory>
-        ensures did { MatchResult result (λ step. Did (notes_of self.new) (sends_of step.sends) (warden_outcome step.outcome) (warden_keeps (notes_of self.old) from.0 number.0 (message_of message))) (λ _. notes_of self.new ≡ notes_of self.old) }
-        ensures runs { IfOk result (λ step. (n f : ℕ) → 4 * f < n → WardenHears n f (notes_of self.old) from.0 number.0 (message_of message) (made (notes_of self.new) (sends_of step.sends) (warden_outcome step.outcome))) }
+    pub fn on(&mut self, incoming: Incoming) -> Result<WardenStep, AllocError>
+        ensures did { MatchResult result (λ step. Did (notes_of self.new) (sends_of step.sends) (warden_outcome step.outcome) (warden_keeps (notes_of self.old) incoming.from.0 incoming.note.0 (message_of incoming.message))) (λ _. notes_of self.new ≡ notes_of self.old) }
+        ensures runs { IfOk result (λ step. (n f : ℕ) → 4 * f < n → WardenHears n f (notes_of self.old) incoming.from.0 incoming.note.0 (message_of incoming.message) (made (notes_of self.new) (sends_of step.sends) (warden_outcome step.outcome))) }
     {
-        self.receive(from, number, message)
+        self.receive(incoming)
     }
 
-    fn receive(
-        &mut self,
-        from: PartyId,
-        number: NoteId,
-        message: Message,
-    ) -> Result<WardenStep, NoMemory>
-        ensures { MatchResult result (λ step. Did (notes_of self.new) (sends_of step.sends) (warden_outcome step.outcome) (warden_keeps (notes_of self.old) from.0 number.0 (message_of message))) (λ _. notes_of self.new ≡ notes_of self.old) }
+    fn receive(&mut self, incoming: Incoming) -> Result<WardenStep, AllocError>
+        ensures { MatchResult result (λ step. Did (notes_of self.new) (sends_of step.sends) (warden_outcome step.outcome) (warden_keeps (notes_of self.old) incoming.from.0 incoming.note.0 (message_of incoming.message))) (λ _. notes_of self.new ≡ notes_of self.old) }
     {
         let mut slot = Slot {
-            held: self.note(number),
+            held: self.note(incoming.note),
         };
-        let step = slot.on(from, message);
-        let WardenOutcome::Taken = step.outcome else {
+        let step = slot.on(incoming.from, incoming.message);
+        let Ok(WardenDone::Taken) = step.outcome else {
             return Ok(step);
         };
-        if self.keep(number, slot.held)? {
-            return Ok(step);
-        }
-        Ok(WardenStep {
-            outcome: WardenOutcome::Refused(Refusal::NoRoom),
-            sends: Sends::Nothing,
-        })
+        if_placed(self.keep(incoming.note, slot.held), step)
     }
 
     // Has the note from now on, if there is room.
-    fn keep(&mut self, number: NoteId, note: Note) -> Result<bool, NoMemory>
-        ensures { MatchResult result (Stored number.0 (note_of note) (notes_of self.old) (notes_of self.new)) (λ _. notes_of self.new ≡ notes_of self.old) }
+    fn keep(&mut self, number: NoteId, note: Note) -> Result<(), Unplaced>
+        ensures { Stored number.0 (note_of note) (notes_of self.old) (notes_of self.new) result }
     {
-        match self.notes.put(number, note) {
-            Ok(()) => Ok(true),
-            Err(Unplaced::Full) => Ok(false),
-            Err(Unplaced::Memory) => Err(NoMemory),
-        }
+        self.notes.put(number, note)
     }
 }

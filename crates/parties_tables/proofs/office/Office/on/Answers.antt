@@ -8,10 +8,10 @@ use Rattle.parties_tables.proofs.office.Office.on.Goals as goal
 pub returns : goal.returns
 returns c =
     let office = office_of c.args.self.now in
-    let message = message_of c.args.message in
+    let message = message_of c.args.incoming.message in
     let quorum = c.args.self.now.quorum in
     record {
       quorum = c.receive.ensures.quorum;
       did = c.receive.ensures.did;
-      runs = along (OfficeHears quorum.wardens quorum.faults office c.args.from.0 c.args.number.0 message) c.receive.ensures.did (office_runs quorum.wardens quorum.faults quorum.few office c.args.from.0 c.args.number.0 message);
+      runs = along (OfficeHears quorum.wardens quorum.faults office c.args.incoming.from.0 c.args.incoming.note.0 message) c.receive.ensures.did (office_runs quorum.wardens quorum.faults quorum.few office c.args.incoming.from.0 c.args.incoming.note.0 message);
     }
