@@ -7,8 +7,8 @@ use Rattle.register.specs.Count.{count, put}
 use Rattle.register.specs.Note.{Note}
 use Rattle.register.specs.Rule.{Replies, quorum, Reading, pick}
 use Rattle.register.specs.Progress.{missing}
-use Rattle.register.proofs.Put.{put_all}
-use Rattle.register.proofs.Moves.{stay, put_stay, fall, enough}
+use Rattle.register.proofs.Put.{put_all, put_stay}
+use Rattle.register.proofs.Moves.{stay, fall, enough}
 use Rattle.protocol.specs.Message.{Message, Take, Took, Ask, Told, Each}
 use Rattle.protocol.specs.Step.{Step, Done, quiet, refuse}
 use Rattle.protocol.specs.Office.{OfficeDone, no_writing, counted, ended, Desk, last_edition, begin_writing, write_on, resend, office_tick, acknowledge, close, settle, awaits_took, took_on, office_on}
@@ -20,7 +20,7 @@ use Rattle.protocol.proofs.Rounds.{same}
 
 module _ (n f : ℕ) (liar : ℕ → Bool) where
   more : (i : ℕ) (known : ℕ → Bool) → missing n liar (put i true known) ≤ missing n liar known
-  more i known = stay n liar known (put i true known) (put_stay n liar i known)
+  more i known = stay n liar known (put i true known) (put_stay i known)
 
   -- THE OFFICE
   abbrev DeskStays : Desk → Desk → Type 0

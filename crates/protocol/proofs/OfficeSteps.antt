@@ -12,7 +12,7 @@ use Rattle.register.specs.Model.{acked, closed, World, new_office, Step}
 use Rattle.register.specs.Model as M
 use Rattle.register.proofs.Counting.{within}
 use Rattle.register.proofs.Put.{put_both, put_same}
-use Rattle.register.proofs.Keeps.{has, reach_kept}
+use Rattle.register.proofs.Keeps.{Written, has, reach_kept}
 use Rattle.protocol.specs.Message.{office, Message, Take, Took, Ask, Told, Each, packets}
 use Rattle.protocol.specs.Step.{quiet, refuse}
 use Rattle.protocol.specs.Step as steps
@@ -22,7 +22,7 @@ use Rattle.protocol.specs.Promise.{RightBegan, RightEnded}
 use Rattle.protocol.specs.System.{office_event, forget}
 use Rattle.protocol.proofs.Logs.{begun_most, not_begun, ended_most, Rights}
 use Rattle.protocol.proofs.Packets.{of_each}
-use Rattle.protocol.proofs.Shows.{Written, Seen, also, desked, Followed, AllMean, more_mean, still_mean, nothing_sent, warden_log, reader_log, stays}
+use Rattle.protocol.proofs.Shows.{Seen, also, desked, Followed, AllMean, more_mean, still_mean, nothing_sent, warden_log, reader_log, stays}
 
 module _ (n f : ℕ) (liar : ℕ → Bool) (k j : ℕ) where
   take_each : (w : World) (k' : ℕ) (x : Note) → (k' ≡ k → Written w.office x) → AllMean n f liar k j w (packets n office k' (Each (Take x)))

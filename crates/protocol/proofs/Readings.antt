@@ -10,7 +10,7 @@ use Rattle.register.specs.Rule.{Replies, silence, reply, answers, quorum, IsRead
 use Rattle.register.specs.Model.{note, Office, Warden, Round, opened, offering, hearing, World, new_round, Step, Reach}
 use Rattle.register.specs.Model as M
 use Rattle.register.specs.Promise.{Full, Reads}
-use Rattle.register.proofs.Counting.{within, nobody}
+use Rattle.register.proofs.Counting.{within, either, nobody}
 use Rattle.register.proofs.Put.{put_same}
 use Rattle.register.proofs.Stands as Q
 use Rattle.register.proofs.Picks.{pick_found, pick_nothing}
@@ -127,7 +127,8 @@ module _ (n f : ℕ) (liar : ℕ → Bool) (w : World) (r : ℕ) where
       go (Found x) picked = ap Found (stands.unique x last (rw m.replies (pick_found n f p n x picked)) (rw m.replies is_read))
       go Nothing picked = absurd (pick_nothing n f p picked last is_read)
 
-abbrev opening : (k c : ℕ) → ReaderDone → Reader → steps.Step Reader ReaderDone
+-- the round begins
+abbrev pub opening : (k c : ℕ) → ReaderDone → Reader → steps.Step Reader ReaderDone
 opening k c how q = record { next = in_round k c q; sends = Each (Ask q.next); outcome = Done how }
 
 -- a round that begins, by an event of its own, while the note is not being written reads the last note that was written
@@ -145,7 +146,7 @@ module _ (n f : ℕ) (liar : ℕ → Bool) (least : 4 * f < n) (s : System) (j k
       q = in_round k c (s.reader j)
 
       honest_few : count n liar ≤ f
-      honest_few = omega (arith, within n liar (λ i. liar i || lapsed i j k (x ∷ s.log)) (λ i _ e. rw e))
+      honest_few = omega (arith, either n liar (λ i. lapsed i j k (x ∷ s.log)))
 
       go : (w : World) → Reach n f liar w → Shows n liar k j w (seen k j s) → (t : System) × Way n f liar begun t × (t.log ≡ Read j k (s.office k).now.edition (s.office k).now.value ∷ begun.log)
       go w reach h =
@@ -180,7 +181,7 @@ module _ (n f : ℕ) (liar : ℕ → Bool) (least : 4 * f < n) (s : System) (j k
               }
 
 -- a reader whose numbers are not used up begins the round
-begins : (k c : ℕ) (how : ReaderDone) (q : Reader) → q.next < last_round → begin_round k c how q ≡ opening k c how q
+pub begins : (k c : ℕ) (how : ReaderDone) (q : Reader) → q.next < last_round → begin_round k c how q ≡ opening k c how q
 begins k c how q fresh = cond-false (used_up q) (refuse q 5) (opening k c how q) (lt-leb last_round q.next fresh)
 
 pub reading_answers_lem : ReadingAnswers
@@ -224,7 +225,7 @@ reading_ends_lem n f liar least s run j own busy calm few chance =
     k = (s.reader j).note
 
     honest_few : count n liar ≤ f
-    honest_few = omega (arith, within n liar (λ i. liar i || lapsed i j k s.log) (λ i _ e. rw e))
+    honest_few = omega (arith, either n liar (λ i. lapsed i j k s.log))
 
     go : (t : System) → Way n f liar s t → Decided n f j s t → Decision j s t → (t : System) × Way n f liar s t × (x : Note) × (xs : List Event) × (t.log ≡ Read j k x.edition x.value ∷ (xs ++ s.log))
     go t way d (sure x log) = (t, way, x, [], log)

@@ -7,7 +7,7 @@ use Rattle.std.proofs.lemmas.Bool.{cond_both, cond-true, cond-false, cases_Bool,
 use Rattle.register.specs.Count.{count}
 use Rattle.register.specs.Note.{Note}
 use Rattle.register.specs.Rule.{Replies, reply, answers, Reading, Found, Nothing, pick}
-use Rattle.register.proofs.Put.{put_same}
+use Rattle.register.proofs.Put.{put_same, put_cell}
 use Rattle.register.proofs.Moves.{Nearer, descend, who, fall, enough}
 use Rattle.protocol.specs.Message.{Ask, Told, Packet}
 use Rattle.protocol.specs.Step.{Step, quiet, refuse}
@@ -19,7 +19,7 @@ use Rattle.protocol.specs.System as S
 use Rattle.protocol.specs.Progress.{Way, here, unheard, Decision, sure, doubtful, open_still, Decided, RoundEnds}
 use Rattle.protocol.proofs.Packets.{at_each}
 use Rattle.protocol.proofs.Follows.{run_kept}
-use Rattle.protocol.proofs.Ways.{honest_so, own_store, Fair, by}
+use Rattle.protocol.proofs.Ways.{honest_so, Fair, by}
 
 -- what is awaited
 pub waits : (n f i k r : ℕ) (q : Reader) → q.busy ≡ true → q.note ≡ k → q.round ≡ r → q.replies.heard i ≡ false → decided n f q ≡ false → awaits_told n f i k r q ≡ true
@@ -73,7 +73,7 @@ module _ (n f : ℕ) (liar : ℕ → Bool) (few : count n liar ≤ f) (s : Syste
   tells : (u : System) (i : ℕ) → i < n → liar i ≡ false → Waiting u → Fair n f liar u (telling i u) × Waiting (telling i u)
   tells u i l honest h = (
     (S.warden_hears i (ask_to i) l honest (h.asked i l) refl, honest_so liar j own),
-    record { reader = h.reader; short = h.short; asked = λ i l. Memᴰ.tail (h.asked i l); office = h.office; warden = own_store i k u.warden ∙ h.warden; log = h.log },
+    record { reader = h.reader; short = h.short; asked = λ i l. Memᴰ.tail (h.asked i l); office = h.office; warden = put_cell i k u.warden ∙ h.warden; log = h.log },
   )
 
   -- the reader hears it

@@ -3,14 +3,14 @@
 use Rattle.std.proofs.Common.{◌≡◌, ℕ, ◌<◌, Bool, true, false, eqb, ltb, List, [], ◌∷◌, ◌++◌, sym, refl, ap, inr, ⊎_elim, arith}
 use mathlib.Core.List.Memᴰ
 use mathlib.Core.List.{Memᴰ}
-use Rattle.std.proofs.lemmas.Bool.{cond_both, cases_eq, cases_Bool, both_ways, ne_eqb, eq-eqb, eqb-true, ltb-true, ltb-false}
+use Rattle.std.proofs.lemmas.Bool.{cond_both, cases_eq, cases_Bool, both_ways, ne_eqb, eqb-true, ltb-true, ltb-false}
 use Rattle.register.specs.Count.{put}
 use Rattle.register.specs.Note.{Note, none}
 use Rattle.register.specs.Rule.{Replies}
 use Rattle.register.specs.Model.{note, Warden, stored, emptied, Round, offering, lapsing, World, new_warden, new_round, Step}
 use Rattle.register.specs.Model as M
-use Rattle.register.proofs.Put.{put_all, put_both, put_same}
-use Rattle.register.proofs.Keeps.{reach_kept}
+use Rattle.register.proofs.Put.{put_all, put_apart, put_both, put_same}
+use Rattle.register.proofs.Keeps.{Written, reach_kept}
 use Rattle.protocol.specs.Message.{office, Message, Take, Took, Ask, Told, Packet, One, packets}
 use Rattle.protocol.specs.Step.{Done, Refused, refuse}
 use Rattle.protocol.specs.Step as steps
@@ -20,11 +20,7 @@ use Rattle.protocol.specs.Log as L
 use Rattle.protocol.specs.Promise.{RightTook}
 use Rattle.protocol.specs.System.{warden_event}
 use Rattle.protocol.proofs.Logs.{Rights}
-use Rattle.protocol.proofs.Shows.{Written, ShowsWarden, ShowsRound, Means, Seen, also, wardened, Followed, AllMean, more_mean, still_mean, desk_log, warden_log, reader_log, stays}
-
--- of two functions that are changed at one place
-pub put_apart : {A B : Type 0} (P : ℕ → A → B → Type 0) (i : ℕ) (a : A) (b : B) (g : ℕ → A) (h : ℕ → B) → P i a b → ((j : ℕ) → (j ≡ i → ⊥) → P j (g j) (h j)) → (j : ℕ) → P j (put i a g j) (put i b h j)
-put_apart P i a b g h here there j = ⊎_elim (λ (e : j ≡ i). rw (e, eq-eqb i i refl) here) (λ apart. rw (ne_eqb j i apart) (there j apart)) (cases_eq j i)
+use Rattle.protocol.proofs.Shows.{ShowsWarden, ShowsRound, Means, Seen, also, wardened, Followed, AllMean, more_mean, still_mean, desk_log, warden_log, reader_log, stays}
 
 module _ (n f : ℕ) (liar : ℕ → Bool) (k j : ℕ) where
   one_sent : (w : World) (p : Packet) → Means n liar k j w p → AllMean n f liar k j w (p ∷ [])

@@ -6,7 +6,7 @@ use mathlib.Core.List.{Memᴰ}
 use Rattle.std.proofs.lemmas.Bool.{both_ways, cases_eq, cases_lt, eq-eqb, ne_eqb}
 use Rattle.register.specs.Count.{put}
 use Rattle.register.specs.Note.{Note, none}
-use Rattle.register.proofs.Put.{put_same}
+use Rattle.register.proofs.Put.{put_same, put_own}
 use Rattle.protocol.specs.Message.{office, Message, Take, Took, Told, Packet, Sends, One, Each, packets}
 use Rattle.protocol.specs.Message as words
 use Rattle.protocol.specs.Step.{Outcome, Done, Refused, Step}
@@ -17,13 +17,12 @@ use Rattle.protocol.specs.Log.{Event, Log, Lost, held, took}
 use Rattle.protocol.specs.Log as events
 use Rattle.protocol.specs.System.{warden_event, reader_event}
 use Rattle.protocol.proofs.Packets.{of_each}
-use Rattle.protocol.proofs.Ways.{put_own}
 use Rattle.protocol_tables.specs.Keep.{Keep, empty, store}
 use Rattle.protocol_tables.specs.Office.{OfficeStep, Letter, post, keep_counting, again, office_ticks}
 use Rattle.protocol_tables.specs.System.{System, by_office, by_warden, by_reader, Move, writes, office_tick, office_hear, warden_hear, reads, reader_ticks, reader_hears, office_restarts, reader_restarts, lies, loses, Run, begin, then}
-use Rattle.protocol_tables.proofs.Room.{Asks, round_asks, tick_asks, reader_asks, of_post, again_had}
+use Rattle.protocol_tables.proofs.Room.{Asks, round_asks, tick_asks, reader_asks, of_post}
+use Rattle.protocol_tables.proofs.Within.{Within}
 use Rattle.protocol_files.proofs.Takes as T
-use Rattle.protocol_files.proofs.Takes.{Within}
 use Rattle.protocol_files.proofs.WardenRuns.{seen_by}
 use Rattle.protocol_files.proofs.OfficeSteps.{Written, begins_it, refuses, written, Counted, passes, counts_it, ends_it, counted_by}
 
@@ -109,12 +108,12 @@ never_told : (n from k : ℕ) (m : Message) → ((r : ℕ) (x : Note) → m ≡ 
 never_told n from k m other p r x at is = let (i, _, same) = of_each n (λ i. record { from = from; to = i; note = k; message = m }) p at in other r x (sym (ap (λ (p : Packet). p.message) same) ∙ is)
 
 take_tells : (y : Note) (r : ℕ) (x : Note) → Take y ≡ Told r x → ⊥
-take_tells y r x is = let z : ◌≡◌ {A = ℕ} 0 1 = cc in omega arith
+take_tells y r x is = cc
 
 asks_tell : (n j k : ℕ) (sends : Sends) → Asks sends → (p : Packet) (r : ℕ) (x : Note) → Memᴰ p (packets n j k sends) → p.message ≡ Told r x → ⊥
 asks_tell n j k words.Nothing so p r x at is = Memᴰ.not-nil at
 asks_tell n j k (One to m) so p r x at is = absurd so
-asks_tell n j k (Each m) (round, asks) p r x at is = never_told n j k m (λ r x is. let z : ◌≡◌ {A = ℕ} 0 1 = cc in omega arith) p r x at is
+asks_tell n j k (Each m) (round, asks) p r x at is = never_told n j k m (λ r x is. cc) p r x at is
 
 -- ALL TOGETHER
 pub record Honest (n : ℕ) (liar : ℕ → Bool) (s : System) : Type 0 where
@@ -140,8 +139,8 @@ module _ (n f : ℕ) (liar : ℕ → Bool) where
     where
       again_tells : (l : Letter) × Memᴰ l (map (again s.office.desks) s.office.under_way) × Memᴰ p (packets n office l.note l.sends) → ⊥
       again_tells (l, listed, at) =
-          let (k, _, same) = again_had s.office.desks s.office.under_way l listed in
-          never_told n office k (Take (s.office.desks.at k).now) (take_tells (s.office.desks.at k).now) p r x (subst (λ (l : Letter). Memᴰ p (packets n office l.note l.sends)) same at) is
+          let (k, _, same) = Memᴰ.of_map (again s.office.desks) s.office.under_way listed in
+          never_told n office k (Take (s.office.desks.at k).now) (take_tells (s.office.desks.at k).now) p r x (subst (λ (l : Letter). Memᴰ p (packets n office l.note l.sends)) (sym same) at) is
 
   -- what it tells it has
   tells_right : (s : System) (i k : ℕ) (sends : Sends) → T.Tells (s.warden i) k sends → Honest n liar s → (p : Packet) (r : ℕ) (x : Note) → Memᴰ p (packets n i k sends) → p.message ≡ Told r x → (x.edition ≡ 0) ⊎ Memᴰ (events.Took p.from p.note x.edition) s.log
@@ -158,7 +157,7 @@ module _ (n f : ℕ) (liar : ℕ → Bool) where
       subst (λ (y : Note). Honest n liar (record { office = s.office; warden = put i (store k x (s.warden i)) s.warden; reader = s.reader; bag = packets n i k (One office (Took x.edition)) ++ s.bag; log = events.Took i k y.edition ∷ s.log })) (sym (put_same k x (s.warden i).at))
       (record {
         holding = took_holding s.warden s.log i k x late h.holding;
-        told = told_more n liar (packets n i k (One office (Took x.edition))) (λ p r y at _ _ is. let same = Memᴰ.eq_of_singleton at in let clash : Took x.edition ≡ Told r y = sym (ap (λ (p : Packet). p.message) same) ∙ is in let z : ◌≡◌ {A = ℕ} 0 1 = cc in absurd (omega arith)) (λ e at. Memᴰ.tail at) h.told;
+        told = told_more n liar (packets n i k (One office (Took x.edition))) (λ p r y at _ _ is. cc (ap (λ (p : Packet). p.message) (Memᴰ.eq_of_singleton at))) (λ e at. Memᴰ.tail at) h.told;
       })
   warden_honest s i from k m (T.other sends out no_take tells) h =
       subst (λ (w : ℕ → Keep Note). Honest n liar (record { office = s.office; warden = w; reader = s.reader; bag = packets n i k sends ++ s.bag; log = warden_event i k ((s.warden i).at k) out ++ s.log })) (sym (put_own i s.warden))

@@ -3,9 +3,9 @@
 use Rattle.std.proofs.Common.{◌≡◌, ℕ, ◌*◌, ◌^◌, ◌<◌, Bool, true, false, List, [], ◌∷◌, take, sym, refl, ap, ◌∙◌, subst, ⊎_elim, arith}
 use mathlib.Core.List.{Memᴰ}
 use borrow.Author.Tests.{clash}
-use Rattle.std.proofs.lemmas.Bool.{both_ways, cases_Bool, cond-true, cond-false, cases_eq, ne_eqb}
+use Rattle.std.proofs.lemmas.Bool.{both_ways, cases_Bool, false_from_ne_true, cond-true, cond-false, ne_eqb}
 use Rattle.register.specs.Note.{Note}
-use Rattle.register.proofs.Put.{put_all, put_both, put_same}
+use Rattle.register.proofs.Put.{put_at, put_all, put_both, put_same}
 use Rattle.protocol.specs.Message.{office, Packet}
 use Rattle.protocol.specs.Step.{Step, quiet}
 use Rattle.protocol.specs.Office.{OfficeDone, counted, ended, Desk, acknowledge, close, office_on}
@@ -78,7 +78,7 @@ module _ (n f : ℕ) (liar : ℕ → Bool) (least : 4 * f < n) (s : System) {o :
       run = subst (λ (e : Desk). tables.Run n f liar (record { office = next; warden = w; reader = s.reader; bag = b; log = Ended k e.now.edition ∷ s.log })) (put_same k (close more) o.desks.at) (runs busy)
 
       first_time : has_ended k d.now.edition s.log ≡ false
-      first_time = ⊎_elim (λ (so : has_ended k d.now.edition s.log ≡ true). absurd ((T.holds n f liar least (record { office = next; warden = w; reader = s.reader; bag = b; log = Ended k d.now.edition ∷ s.log }) run [] s.log (Ended k d.now.edition) refl).once (ended_there k d.now.edition s.log so))) (λ off. off) (cases_Bool (has_ended k d.now.edition s.log))
+      first_time = false_from_ne_true (has_ended k d.now.edition s.log) (λ so. (T.holds n f liar least (record { office = next; warden = w; reader = s.reader; bag = b; log = Ended k d.now.edition ∷ s.log }) run [] s.log (Ended k d.now.edition) refl).once (ended_there k d.now.edition s.log so))
 
       news : ended_news k d.now.edition s.log ≡ Ended k d.now.edition ∷ s.log
       news = cond-false (has_ended k d.now.edition s.log) s.log (Ended k d.now.edition ∷ s.log) first_time
@@ -160,10 +160,9 @@ module _ (n f : ℕ) (liar : ℕ → Bool) (least : 4 * f < n) (s : System) {o :
 
       same : (j : ℕ) → (r.then.desks.at j).busy ≡ true → next.desks.at j ≡ r.then.desks.at j
       same j so =
-          ⊎_elim
-          (λ (is : j ≡ k). absurd (both_ways (r.then.desks.at k).busy r.off (subst (λ (j : ℕ). (r.then.desks.at j).busy ≡ true) is so)))
-          (λ apart. rw (ne_eqb j k apart) (work.same j (ap (λ (e : Desk). e.busy) (sym (r.others j apart)) ∙ so) ∙ sym (r.others j apart)))
-          (cases_eq j k)
+          put_at (λ e. e ≡ r.then.desks.at j) j k (close more) m.desks.at
+          (λ is. absurd (both_ways (r.then.desks.at k).busy r.off (rw is at so)))
+          (λ apart. work.same j (ap (λ (e : Desk). e.busy) (sym (r.others j apart)) ∙ so) ∙ sym (r.others j apart))
 
   -- nothing is recorded, and it goes on as it was
   passes_on : Followed n f liar (record { office = record { disk = sync (append [] s.office.disk); up = s.office.up; memory = m }; warden = s.warden; reader = s.reader; bag = s.bag; log = s.log })

@@ -1,13 +1,13 @@
 -- The office by its records, beside the office without files: both begin, one counts, one closes, one starts again.
 -- Assumes nothing.
-use Rattle.std.proofs.Common.{◌≡◌, ℕ, suc, Bool, true, false, eqb, List, [], ◌∷◌, ◌++◌, sym, refl, ap, ◌∙◌, ⊎_elim, arith}
+use Rattle.std.proofs.Common.{◌≡◌, ℕ, suc, Bool, true, false, eqb, List, [], ◌∷◌, ◌++◌, sym, refl, ap, ◌∙◌, ⊎_elim}
 use mathlib.Core.List.Memᴰ
 use mathlib.Core.List.{Memᴰ}
 use borrow.Author.Tests.{clash}
-use Rattle.std.proofs.lemmas.Bool.{both_ways, cases_Bool, cond-true, cond_both, eq-eqb, eqb-true, and_parts, or_cases, or_left, or_right}
+use Rattle.std.proofs.lemmas.Bool.{both_ways, false_from_ne_true, cond-true, cond_both, eq-eqb, eqb-true, and_parts, or_cases, or_left, or_right}
 use Rattle.register.specs.Count.{put}
 use Rattle.register.specs.Note.{Note}
-use Rattle.register.proofs.Put.{put_all, put_both}
+use Rattle.register.proofs.Put.{put_all, put_both, put_idle}
 use Rattle.protocol.specs.Message.{office, Take, Each, Packet, packets}
 use Rattle.protocol.specs.Step.{Step}
 use Rattle.protocol.specs.Office.{OfficeDone, Desk, begin_writing, close}
@@ -17,7 +17,7 @@ use Rattle.protocol_tables.specs.Keep.{store}
 use Rattle.protocol_tables.specs.Office.{Office}
 use Rattle.protocol_tables.specs.System.{forgetful}
 use Rattle.protocol_files.specs.System.{ends_in, has_ended, ended_news}
-use Rattle.protocol_files.proofs.OfficeSteps.{Ready, begun_by, room_alike, put_idle, closed}
+use Rattle.protocol_files.proofs.OfficeSteps.{Ready, begun_by, room_alike, closed}
 use Rattle.protocol_files.proofs.OfficeFiles.{DeskStands, Stands, desk_more}
 use Rattle.protocol_files.proofs.Shown.{LogFits}
 
@@ -25,7 +25,7 @@ module _ {n : ℕ} {bag : List Packet} {l : Log} {base o : Office} (h : Stands n
   pub stands_ready : Ready base k → Ready o k
   stands_ready ready =
       record {
-        idle = ⊎_elim (λ (on : (o.desks.at k).busy ≡ true). absurd (both_ways (base.desks.at k).busy ready.idle ((h.desk k).busy on))) (λ off. off) (cases_Bool (o.desks.at k).busy);
+        idle = false_from_ne_true (o.desks.at k).busy (λ on. both_ways (base.desks.at k).busy ready.idle ((h.desk k).busy on));
         low = rw (h.desk k).now at ready.low;
         roomy = room_alike k o.desks base.desks (sym h.had) (sym h.many) ready.roomy;
       }
@@ -55,7 +55,7 @@ module _ {n : ℕ} {bag : List Packet} {l : Log} {base o : Office} (h : Stands n
   stands_kept e us had new =
       record {
         desk = put_all (λ j e. DeskStands n j bag l (base.desks.at j) e) k e o.desks.at new h.desk;
-        had = h.had ∙ sym (put_idle k o.desks.had had);
+        had = h.had ∙ sym (put_idle k true o.desks.had had);
         many = h.many ∙ sym (cond-true (o.desks.had k) o.desks.many (suc o.desks.many) had);
       }
 
@@ -64,7 +64,7 @@ module _ {n : ℕ} {bag : List Packet} {l : Log} {base o : Office} (h : Stands n
   stands_closed had off =
       record {
         desk = put_all (λ j d. DeskStands n j bag l d (o.desks.at j)) k (close (base.desks.at k)) base.desks.at (record { now = (h.desk k).now; busy = λ on. absurd (both_ways (o.desks.at k).busy off on); ended = λ on. absurd (clash on); sent = λ on. absurd (clash on) }) h.desk;
-        had = put_idle k base.desks.had (ap (λ (g : ℕ → Bool). g k) h.had ∙ had) ∙ h.had;
+        had = put_idle k true base.desks.had (ap (λ (g : ℕ → Bool). g k) h.had ∙ had) ∙ h.had;
         many = cond-true (base.desks.had k) base.desks.many (suc base.desks.many) (ap (λ (g : ℕ → Bool). g k) h.had ∙ had) ∙ h.many;
       }
 
@@ -97,4 +97,4 @@ ended_so k e (x ∷ l) at =
 pub news_fits : (k e : ℕ) (l : Log) → LogFits l → LogFits (ended_news k e l)
 news_fits k e l h =
     cond_both (has_ended k e l) l (Ended k e ∷ l) LogFits (λ _. h)
-    (λ _ k' e' v at. ⊎_elim (λ (is : Began k' e' v ≡ Ended k e). let z : ◌≡◌ {A = ℕ} 0 1 = cc in absurd (omega arith)) (h k' e' v) (Memᴰ.cases_cons at))
+    (λ _ k' e' v at. ⊎_elim (λ (is : Began k' e' v ≡ Ended k e). cc) (h k' e' v) (Memᴰ.cases_cons at))

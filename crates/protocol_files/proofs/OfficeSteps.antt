@@ -1,11 +1,10 @@
 -- What the office does when it is told to write and when a message comes, and which offices do the same.
 -- Assumes nothing.
-use Rattle.std.proofs.Common.{◌≡◌, ℕ, suc, Bool, true, false, not, ◌&&◌, ◌||◌, eqb, ltb, leb, List, [], ◌∷◌, ◌++◌, sym, refl, ap, ◌∙◌}
-use mathlib.Core.Path.{fun_ext}
+use Rattle.std.proofs.Common.{◌≡◌, ℕ, suc, true, false, not, ◌&&◌, ◌||◌, eqb, ltb, leb, List, [], ◌∷◌, ◌++◌, sym, refl, ap, ◌∙◌}
 use Rattle.std.proofs.lemmas.Bool.{cond_both, cond-true, or_parts, and_parts, eq-eqb}
 use Rattle.register.specs.Count.{count, put}
 use Rattle.register.specs.Rule.{quorum}
-use Rattle.register.proofs.Put.{put_all, put_both}
+use Rattle.register.proofs.Put.{put_all, put_both, put_idle}
 use Rattle.protocol.specs.Message.{Message, Take, Took, Ask, Told}
 use Rattle.protocol.specs.Step.{Step, Refused, quiet, refuse}
 use Rattle.protocol.specs.Office.{OfficeDone, counted, ended, Desk, last_edition, begin_writing, acknowledge, close, settle, awaits_took, took_on, office_on}
@@ -88,13 +87,10 @@ pub like_stored : {a b : Office} (k : ℕ) (d e : Desk) (us vs : List ℕ) → D
 like_stored {a} {b} k d e us vs same h =
     record { desk = put_both (λ _ d e. DeskLike d e) k d e a.desks.at b.desks.at same h.desk; had = ap (put k true) h.had; many = rw (h.had, h.many) }
 
-pub put_idle : (k : ℕ) (g : ℕ → Bool) → g k ≡ true → put k true g ≡ g
-put_idle k g is = fun_ext (put_all (λ j b. b ≡ g j) k true g (sym is) (λ _. refl))
-
 -- one of them has a new desk for a note that it had
 pub like_kept : {a b : Office} (k : ℕ) (d : Desk) (us : List ℕ) → a.desks.had k ≡ true → DeskLike d (b.desks.at k) → Like a b → Like (record { desks = store k d a.desks; under_way = us }) b
 like_kept {a} {b} k d us had same h =
-    record { desk = put_all (λ j d. DeskLike d (b.desks.at j)) k d a.desks.at same h.desk; had = put_idle k a.desks.had had ∙ h.had; many = cond-true (a.desks.had k) a.desks.many (suc a.desks.many) had ∙ h.many }
+    record { desk = put_all (λ j d. DeskLike d (b.desks.at j)) k d a.desks.at same h.desk; had = put_idle k true a.desks.had had ∙ h.had; many = cond-true (a.desks.had k) a.desks.many (suc a.desks.many) had ∙ h.many }
 
 -- WHAT RECORDS MEAN
 pub office_replays-++ : (o : Office) (fs gs : List Frame) → office_replays_all o (fs ++ gs) ≡ office_replays_all (office_replays_all o fs) gs

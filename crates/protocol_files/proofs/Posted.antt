@@ -19,8 +19,8 @@ use Rattle.protocol_tables.specs.Warden.{warden_keeps}
 use Rattle.protocol_tables.specs.Office.{OfficeStep, Letter, post, keep_counting, again, office_ticks}
 use Rattle.protocol_tables.specs.System.{System, by_office, by_reader, Move, writes, office_tick, office_hear, warden_hear, reads, reader_ticks, reader_hears, office_restarts, reader_restarts, lies, loses, Run, begin, then}
 use Rattle.protocol_tables.proofs.Refines.{refines, run_kept}
-use Rattle.protocol_tables.proofs.Room.{brings, plain_sends, warden_plain, Asks, asks_plain, round_asks, tick_asks, reader_asks, of_post, again_had}
-use Rattle.protocol_files.proofs.Takes.{Within}
+use Rattle.protocol_tables.proofs.Room.{brings, plain_sends, warden_plain, Asks, asks_plain, round_asks, tick_asks, reader_asks, of_post}
+use Rattle.protocol_tables.proofs.Within.{Within}
 use Rattle.protocol_files.proofs.OfficeSteps.{Written, begins_it, refuses, written, Counted, passes, counts_it, ends_it, counted_by}
 
 -- each note that was sent to be taken has begun
@@ -68,8 +68,8 @@ module _ (n f : ℕ) (liar : ℕ → Bool) (least : 4 * f < n) where
     where
       again_posted : (l : Letter) × Memᴰ l (map (again s.office.desks) s.office.under_way) × Memᴰ p (packets n office l.note l.sends) → Memᴰ (Began p.note x.edition x.value) s.log
       again_posted (l, listed, at) =
-          let (k, under_way, same) = again_had s.office.desks s.office.under_way l listed in
-          posted_each n k (s.office.desks.at k).now (began_busy run k ((run_kept n f liar run).order.busy k under_way)) p x (subst (λ (l : Letter). Memᴰ p (packets n office l.note l.sends)) same at) is
+          let (k, under_way, same) = Memᴰ.of_map (again s.office.desks) s.office.under_way listed in
+          posted_each n k (s.office.desks.at k).now (began_busy run k ((run_kept n f liar run).order.busy k under_way)) p x (subst (λ (l : Letter). Memᴰ p (packets n office l.note l.sends)) (sym same) at) is
 
   reader_posted : (s : System) (j : ℕ) (o : Step Reader ReaderDone) → Asks o.sends → Kept s → Kept (by_reader n j o s)
   reader_posted s j o asks h = posted_more (packets n j o.next.note o.sends) (λ p at so _. plain_sends n j o.next.note o.sends (asks_plain o.sends asks) p at so) (λ x at. Memᴰ.append_right (P.reader_event j o.next o.outcome) at) h

@@ -1,19 +1,18 @@
 -- A reading that begins while all are at work, and the note is not being written, reads what was written last.
 -- Assumes nothing.
-use Rattle.std.proofs.Common.{◌≡◌, ℕ, suc, ◌+◌, ◌*◌, ◌<◌, ◌≤◌, Bool, true, false, ◌||◌, ltb, List, [], ◌∷◌, ◌++◌, sym, refl, ap, ◌∙◌, subst, ⊎_elim, arith}
+use Rattle.std.proofs.Common.{◌≡◌, ℕ, suc, ◌+◌, ◌*◌, ◌<◌, ◌≤◌, Bool, true, false, ltb, List, [], ◌∷◌, ◌++◌, sym, refl, ap, ◌∙◌, subst, ⊎_elim, arith}
 use mathlib.Core.List.Memᴰ
 use mathlib.Core.List.{Memᴰ}
-use Rattle.std.proofs.lemmas.Bool.{both_ways, cases_Bool, cases_lt, cond_both, cond-false, eq-eqb, lt-leb, ltb-false}
+use Rattle.std.proofs.lemmas.Bool.{both_ways, false_from_ne_true, cases_lt, cond_both, eq-eqb, lt-leb, ltb-false}
 use Rattle.register.specs.Count.{count}
 use Rattle.register.specs.Note.{Note}
 use Rattle.register.specs.Rule.{silence, answers, Reading, Found, Nothing, pick}
-use Rattle.register.proofs.Counting.{within, nobody}
+use Rattle.register.proofs.Counting.{either, nobody}
 use Rattle.register.proofs.Notes.{note_path}
 use Rattle.register.proofs.Put.{put_same}
 use Rattle.register.proofs.Keeps.{reach_kept}
-use Rattle.protocol.specs.Message.{Ask, Each}
-use Rattle.protocol.specs.Step.{Step, Done, quiet, refuse}
-use Rattle.protocol.specs.Reader.{ReaderDone, asked, undecided, unsure, Reader, last_round, more_rounds, used_up, in_round, read_on, decided, over, decide}
+use Rattle.protocol.specs.Step.{Step, quiet}
+use Rattle.protocol.specs.Reader.{ReaderDone, asked, undecided, unsure, Reader, more_rounds, in_round, decided, over, decide}
 use Rattle.protocol.specs.Log.{Event, Began, Ended, Asked, Read, Log, before_round, lapsed}
 use Rattle.protocol.specs.Promise.{RightRead, Few, Busy}
 use Rattle.protocol.specs.System.{reader_event}
@@ -21,6 +20,7 @@ use Rattle.protocol.proofs.Logs.{begun_most}
 use Rattle.protocol.proofs.Laws.{good_logs}
 use Rattle.protocol.proofs.Packets.{at_each}
 use Rattle.protocol.proofs.ReaderSteps.{doubts_right}
+use Rattle.protocol.proofs.Readings.{opening, begins}
 use Rattle.protocol.proofs.Follows as F
 use Rattle.protocol_tables.proofs.Refines as T
 use Rattle.protocol_files.specs.System.{System, by_reader, reads, Run, then}
@@ -45,7 +45,7 @@ module _ (n f : ℕ) (liar : ℕ → Bool) (least : 4 * f < n) where
       let work = h.office.working up in
       let (world, reach, shows) = (F.run_kept n f liar least (T.refines n f liar (plain n f liar o w b s) h.run)).followed k 0 in
       let d = shows.desk in
-      let idle : (o.desks.at k).busy ≡ false = ⊎_elim (λ on. absurd (both_ways (s.office.memory.desks.at k).busy off ((work.like.desk k).busy ∙ (h.office.stands.desk k).busy on))) (λ no_writing. no_writing) (cases_Bool (o.desks.at k).busy) in
+      let idle : (o.desks.at k).busy ≡ false = false_from_ne_true (o.desks.at k).busy (λ on. both_ways (s.office.memory.desks.at k).busy off ((work.like.desk k).busy ∙ (h.office.stands.desk k).busy on)) in
       let all : world.office.ended ≡ world.office.edition = d.idle idle in
       let last : world.office.edition ≡ (o.desks.at k).now.edition = d.edition in
       subst (λ (x : Note). Rests k x s.log) (sym ((work.like.desk k).now ∙ (h.office.stands.desk k).now))
@@ -65,7 +65,7 @@ module _ (n f : ℕ) (liar : ℕ → Bool) (least : 4 * f < n) where
     in_log at other = ⊎_elim (λ is. absurd (other is)) (λ at. at) (Memᴰ.cases_cons at)
 
     old : (e : ℕ) (v : List ℕ) → Memᴰ (Began k e v) (Asked j k ∷ l) → Memᴰ (Began k e v) l
-    old e v at = in_log at (λ (is : Began k e v ≡ Asked j k). let z : ◌≡◌ {A = ℕ} 0 1 = cc in omega arith)
+    old e v at = in_log at (λ (is : Began k e v ≡ Asked j k). cc)
 
     -- so the round does not read nothing
     not_busy : Busy j k (Asked j k ∷ l) → ⊥
@@ -74,7 +74,7 @@ module _ (n f : ℕ) (liar : ℕ → Bool) (least : 4 * f < n) where
         unfinished (subst (λ (m : Log). Memᴰ (Ended k e) m) (sym before) (rest.ended e some below))
 
     honest_few : count n liar ≤ f
-    honest_few = omega (arith, within n liar (λ i. liar i || lapsed i j k (Asked j k ∷ l)) (λ i _ e. rw e))
+    honest_few = omega (arith, either n liar (λ i. lapsed i j k (Asked j k ∷ l)))
 
     -- and what it reads is what was written last
     reads_last : (t : System) → Run n f liar t → (y : Note) → t.log ≡ Read j k y.edition y.value ∷ (Asked j k ∷ l) → y ≡ x
@@ -110,16 +110,12 @@ module _ (n f : ℕ) (liar : ℕ → Bool) (least : 4 * f < n) where
             (λ (zero_y, empty). note_path y x (zero_y ∙ sym zero_x) (empty ∙ sym (rest.blank zero_x)))
             (right.written honest_few)
 
--- the round begins
-abbrev opening : (k : ℕ) → Reader → Step Reader ReaderDone
-opening k q = record { next = in_round k more_rounds q; sends = Each (Ask q.next); outcome = Done asked }
-
 module _ (n f : ℕ) (liar : ℕ → Bool) (least : 4 * f < n) (s : System) (run : Run n f liar s) (all : AllUp n liar s) (j k : ℕ) (own : liar j ≡ false) (idle : (s.office.memory.desks.at k).busy ≡ false) (few : Few n f liar j k (Asked j k ∷ s.log)) where
   abbrev x : Note
   x = (s.office.memory.desks.at k).now
 
   abbrev begun : System
-  begun = by_reader n j (opening k (s.reader j)) s
+  begun = by_reader n j (opening k more_rounds asked (s.reader j)) s
 
   abbrev r : ℕ
   r = (s.reader j).next
@@ -173,12 +169,8 @@ module _ (n f : ℕ) (liar : ℕ → Bool) (least : 4 * f < n) (s : System) (run
           (λ last _ _. absurd (omega (arith, ltb-false 0 q.left last, ends.reader.left)))
           next log
 
--- a reader whose numbers are not used up begins the round
-begins : (k : ℕ) (q : Reader) → q.next < last_round → read_on q k ≡ opening k q
-begins k q fresh = cond-false (used_up q) (refuse q 5) (opening k q) (lt-leb last_round q.next fresh)
-
 pub reading_answers_lem : ReadingAnswers
 reading_answers_lem n f liar least s run all j k own fresh idle few =
-    subst (λ (o : Step Reader ReaderDone). Run n f liar (by_reader n j o s) → Few n f liar j k (by_reader n j o s).log → (t : System) × Way n f liar (by_reader n j o s) t × (t.log ≡ Read j k (s.office.memory.desks.at k).now.edition (s.office.memory.desks.at k).now.value ∷ (by_reader n j o s).log)) (sym (begins k (s.reader j) fresh))
+    subst (λ (o : Step Reader ReaderDone). Run n f liar (by_reader n j o s) → Few n f liar j k (by_reader n j o s).log → (t : System) × Way n f liar (by_reader n j o s) t × (t.log ≡ Read j k (s.office.memory.desks.at k).now.edition (s.office.memory.desks.at k).now.value ∷ (by_reader n j o s).log)) (sym (begins k more_rounds asked (s.reader j) fresh))
     (λ begun few. round_reads n f liar least s run all j k own idle few begun)
     (then run (reads j k own)) few

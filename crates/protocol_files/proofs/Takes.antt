@@ -2,23 +2,20 @@
 -- Assumes nothing.
 use Rattle.std.proofs.Common.{◌≡◌, ℕ, zero, suc, ◌<◌, true, false, eqb, ltb, ◌⊎◌, List, [], ◌∷◌, ◌++◌, take, refl, ap, ◌∙◌, inl, inr, ⊎_elim, arith}
 use mathlib.Core.List.{Memᴰ}
-use Rattle.std.proofs.lemmas.Bool.{cond_both, eqb-true, ltb-true, lt-ltb, cases_eq, ne_eqb}
+use Rattle.std.proofs.lemmas.Bool.{cond_both, eqb-true, ltb-true}
 use Rattle.register.specs.Note.{Note}
-use Rattle.register.proofs.Put.{put_same}
+use Rattle.register.proofs.Put.{put_at}
 use Rattle.protocol.specs.Message.{office, Message, Take, Took, Ask, Told, Packet, Sends, One, Each}
 use Rattle.protocol.specs.Message as words
 use Rattle.protocol.specs.Step.{Outcome, Done, Refused, Step, refuse}
 use Rattle.protocol.specs.Warden.{WardenDone, taken, answered, take_on}
 use Rattle.protocol_tables.specs.Keep.{Keep, room, store}
 use Rattle.protocol_tables.specs.Warden.{takes, keep_note, warden_keeps}
+use Rattle.protocol_tables.proofs.Within.{Within}
 use Rattle.frames.specs.Format.{Frame, Sent, Fits}
 use Rattle.frames.specs.Journal.{Records}
 use Rattle.frames.specs.declared.role.Role.TheVariants as roles
 use Rattle.protocol_files.specs.Records.{warden_replays, warden_replays_all}
-
--- all of these are among those
-abbrev pub Within : {A : Type 0} → List A → List A → Type 0
-Within {A} xs ys = (x : A) → Memᴰ x xs → Memᴰ x ys
 
 -- WHAT A WARDEN DOES WITH A MESSAGE: it takes a note, or it has what it had
 abbrev pub took_step : (k : ℕ) → Note → Keep Note → Step (Keep Note) WardenDone
@@ -31,7 +28,7 @@ Tells d k (One to m) = (r : ℕ) (x : Note) → m ≡ Told r x → x ≡ d.at k
 Tells d k (Each m) = ⊥
 
 took_tells : (d : Keep Note) (k e r : ℕ) (x : Note) → Took e ≡ Told r x → x ≡ d.at k
-took_tells d k e r x is = let z : ◌≡◌ {A = ℕ} 0 1 = cc in absurd (omega arith)
+took_tells d k e r x is = cc
 
 pub data Heard (d : Keep Note) (from k : ℕ) : Message → Step (Keep Note) WardenDone → Type 0 where
   took : (x : Note) → from ≡ office → (d.at k).edition < x.edition → room k d ≡ true → Heard d from k (Take x) (took_step k x d)
@@ -53,9 +50,6 @@ heard d from k (Take x) =
 heard d from k (Took e) = other words.Nothing (Refused 1) refl tt
 heard d from k (Ask r) = other (One from (Told r (d.at k))) (Done answered) refl (λ r' x is. cc)
 heard d from k (Told r x) = other words.Nothing (Refused 1) refl tt
-
-takes_step : (d : Keep Note) (k : ℕ) (x : Note) → (d.at k).edition < x.edition → room k d ≡ true → warden_keeps d office k (Take x) ≡ took_step k x d
-takes_step d k x late roomy = rw (lt-ltb (d.at k).edition x.edition late, roomy)
 
 -- f is what the office sent to i, and i takes it
 pub record Taking (i : ℕ) (bag : List Packet) (d : Keep Note) (f : Frame) : Type 0 where
@@ -112,7 +106,7 @@ module _ (i : ℕ) (bag : List Packet) where
       Later y = (y ≡ d.at k) ⊎ (((d.at k).edition < y.edition) × Memᴰ (record { from = office; to = i; note = k; message = Take y }) bag)
 
       first : Later ((store t.about t.text d).at k)
-      first = ⊎_elim (λ (is : k ≡ t.about). rw (is, put_same t.about t.text d.at) (inr (t.late, t.sent))) (λ apart. rw (ne_eqb k t.about apart) (inl refl)) (cases_eq k t.about)
+      first = put_at Later k t.about t.text d.at (λ is. rw is (inr (t.late, t.sent))) (λ _. inl refl)
 
       one_step : Later ((warden_replays d f).at k)
       one_step = rw (replays_taking t) first

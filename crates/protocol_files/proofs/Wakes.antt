@@ -2,9 +2,9 @@
 -- Assumes nothing.
 use Rattle.std.proofs.Common.{◌≡◌, ℕ, zero, suc, ◌*◌, ◌<◌, ◌≤◌, Bool, true, false, ◌++◌, sym, refl, ap, ◌∙◌, subst, ⊎_elim, arith}
 use mathlib.Core.List.Memᴰ
-use Rattle.std.proofs.lemmas.Bool.{both_ways, cases_Bool, cases_eq, ne_eqb}
+use Rattle.std.proofs.lemmas.Bool.{both_ways, cases_Bool, cases_eq}
 use Rattle.register.specs.Count.{put}
-use Rattle.register.proofs.Put.{put_same}
+use Rattle.register.proofs.Put.{put_at}
 use Rattle.protocol_files.specs.Records.{warden_of}
 use Rattle.protocol_files.specs.Nodes.{Node, Warden, flushed, opened_warden}
 use Rattle.protocol_files.specs.System.{System, warden_flushed, warden_opened, office_opened, office_opens, warden_flushes, warden_opens, Run}
@@ -95,8 +95,7 @@ module _ (n f : ℕ) (liar : ℕ → Bool) (least : 4 * f < n) where
               way = along n f liar h.way w.way;
               onward = further h.onward w.onward;
               office = w.office ∙ h.office;
-              awake = λ i below own. subst (λ (c : ℕ → Node Warden). Awake (c i)) (sym w.warden)
-                  (⊎_elim (λ (is : i ≡ m). rw (is, put_same m w.node t.warden) w.awake) (λ apart. rw (ne_eqb i m apart) (h.awake i (omega arith) own)) (cases_eq i m));
+              awake = λ i below own. subst (λ (c : ℕ → Node Warden). Awake (c i)) (sym w.warden) (put_at Awake i m w.node t.warden (λ _. w.awake) (λ apart. h.awake i (omega arith) own));
             },
           )
 

@@ -18,9 +18,10 @@ use Rattle.protocol_tables.specs.Keep.{Keep}
 use Rattle.protocol_tables.specs.Warden.{takes, warden_keeps}
 use Rattle.protocol_tables.specs.Office.{Office}
 use Rattle.protocol_tables.specs.System.{Run, then, warden_hear}
+use Rattle.protocol_tables.proofs.Within.{Within}
 use Rattle.frames.specs.Format.{Frame, Sent}
 use Rattle.protocol_files.specs.Records.{warden_records, warden_replays, warden_replays_all, took_by, took_all}
-use Rattle.protocol_files.proofs.Takes.{Within, Heard, took, other, heard, Taken, taken_more}
+use Rattle.protocol_files.proofs.Takes.{Heard, took, other, heard, Taken, taken_more}
 use Rattle.protocol_files.proofs.WardenFiles.{Batch, nothing, hear}
 
 took_all-++ : (i : ℕ) (fs gs : List Frame) (l : Log) → took_all i (fs ++ gs) l ≡ took_all i gs (took_all i fs l)

@@ -1,3 +1,4 @@
+pub mod Within
 pub mod Orders
 pub mod Refines
 pub mod Numbers

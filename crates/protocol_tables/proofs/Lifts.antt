@@ -8,7 +8,7 @@ use Rattle.std.proofs.lemmas.Bool.{cond_both, eqb-true}
 use Rattle.register.specs.Count.{count, put}
 use Rattle.register.specs.Note.{Note}
 use Rattle.register.specs.Rule.{quorum, answers}
-use Rattle.register.proofs.Put.{put_same}
+use Rattle.register.proofs.Put.{put_same, put_own, put_cell, put_map}
 use Rattle.protocol.specs.Message.{office, Message, Take, Took, Ask, Told, Packet, One, Each, packets}
 use Rattle.protocol.specs.Step.{Step, Done, Refused, quiet, refuse}
 use Rattle.protocol.specs.Warden.{WardenDone, taken, take_on, warden_on}
@@ -17,7 +17,6 @@ use Rattle.protocol.specs.Reader.{ReaderDone, Reader, read_on, reader_tick, read
 use Rattle.protocol.specs.System as plain
 use Rattle.protocol.specs.Progress.{Decision, sure, doubtful, open_still, Decided}
 use Rattle.protocol.specs.Progress as ways
-use Rattle.protocol.proofs.Ways.{put_own, own_store}
 use Rattle.protocol.proofs.Writings as P
 use Rattle.protocol.proofs.Rounds as Q
 use Rattle.protocol.proofs.Readings as R
@@ -27,7 +26,8 @@ use Rattle.protocol_tables.specs.Office.{Letter, post, keep_counting, office_hea
 use Rattle.protocol_tables.specs.System.{System, by_office, by_warden, by_reader, unbounded, Move, Run, then}
 use Rattle.protocol_tables.specs.System as T
 use Rattle.protocol_tables.specs.Progress.{fair, Way, here, next, WritingEnds, RoundEnds, ReadingEnds, ReadingAnswers}
-use Rattle.protocol_tables.proofs.Refines.{at_put, run_kept, refines}
+use Rattle.protocol_tables.proofs.Within.{Within, within_more}
+use Rattle.protocol_tables.proofs.Refines.{run_kept, refines}
 use Rattle.protocol_tables.proofs.Room.{brings, roomy, run_fits}
 
 -- u is s without bounds, but that less may be on its way
@@ -41,12 +41,6 @@ pub record Covers (u : plain.System) (s : System) : Type 0 where
 -- the same, spelled out
 abbrev over : List Packet → System → plain.System
 over bag s = record { office = s.office.desks.at; warden = λ i. (s.warden i).at; reader = s.reader; bag = bag; log = s.log }
-
-abbrev Within : List Packet → List Packet → Type 0
-Within a b = (p : Packet) → Memᴰ p a → Memᴰ p b
-
-within_more : (ps : List Packet) {a b : List Packet} → Within a b → Within (ps ++ a) (ps ++ b)
-within_more ps {a} {b} h p m = ⊎_elim (Memᴰ.append_left b) (λ m. Memᴰ.append_right ps (h p m)) (Memᴰ.append_cases ps m)
 
 -- what was on its way stays so, and each letter is on its way
 pub in_post : (n : ℕ) (ls : List Letter) (bag : List Packet) → Within bag (post n ls bag)
@@ -108,14 +102,14 @@ module _ (n f : ℕ) (liar : ℕ → Bool) where
 
     -- a warden has taken, or has not
     unchanged : (i k : ℕ) (ps : List Packet) → Covers (record { office = s.office.desks.at; warden = put i (put k ((s.warden i).at k) (s.warden i).at) (λ i. (s.warden i).at); reader = s.reader; bag = ps ++ bag; log = s.log }) (record { office = s.office; warden = put i (s.warden i) s.warden; reader = s.reader; bag = ps ++ s.bag; log = s.log })
-    unchanged i k ps = record { office = refl; warden = own_store i k (λ i. (s.warden i).at) ∙ ap (λ (w : ℕ → Keep Note). λ i. (w i).at) (sym (put_own i s.warden)); reader = refl; log = refl; bag = within_more ps within }
+    unchanged i k ps = record { office = refl; warden = put_cell i k (λ i. (s.warden i).at) ∙ ap (λ (w : ℕ → Keep Note). λ i. (w i).at) (sym (put_own i s.warden)); reader = refl; log = refl; bag = within_more ps within }
 
     warden_covers : (i from k : ℕ) (m : Message) → (brings m ≡ true → from ≡ office → room k (s.warden i) ≡ true) → Covers (plain.by_warden n i k (warden_on ((s.warden i).at k) from m) (over bag s)) (by_warden n i k (warden_keeps (s.warden i) from k m) s)
     warden_covers i from k (Take x) fits =
         cond_both (eqb from office) (take_on y x) (refuse y 1) After
         (λ sent. cond_both (ltb y.edition x.edition) (record { next = x; sends = One office (Took x.edition); outcome = Done taken }) (record { next = y; sends = One office (Took x.edition); outcome = Refused 2 }) After
         (λ _. cond_both (room k (s.warden i)) (record { next = store k x (s.warden i); sends = One office (Took x.edition); outcome = Done taken }) (refuse (s.warden i) 6) (λ (o : Step (Keep Note) WardenDone). Covers (plain.by_warden n i k (record { next = x; sends = One office (Took x.edition); outcome = Done taken }) (over bag s)) (by_warden n i k o s))
-        (λ _. record { office = refl; warden = at_put i (store k x (s.warden i)) s.warden; reader = refl; log = ap (λ (z : Note). plain.warden_event i k z (Done taken) ++ s.log) (sym (put_same k x (s.warden i).at)); bag = within_more (packets n i k (One office (Took x.edition))) within })
+        (λ _. record { office = refl; warden = put_map (λ (d : Keep Note). d.at) i (store k x (s.warden i)) s.warden; reader = refl; log = ap (λ (z : Note). plain.warden_event i k z (Done taken) ++ s.log) (sym (put_same k x (s.warden i).at)); bag = within_more (packets n i k (One office (Took x.edition))) within })
         (λ full. absurd (clash (sym full ∙ fits refl (eqb-true from office sent)))))
         (λ _. unchanged i k (packets n i k (One office (Took x.edition)))))
         (λ _. unchanged i k [])

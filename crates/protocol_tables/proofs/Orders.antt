@@ -4,9 +4,10 @@ use Rattle.std.proofs.Common.{◌≡◌, ℕ, true, false, not, ◌&&◌, ◌||�
 use mathlib.Core.List.Memᴰ
 use mathlib.Core.List.{Memᴰ}
 use borrow.Author.Tests.{clash}
-use Rattle.std.proofs.lemmas.Bool.{cond_both, cases_eq, and_parts, eq-eqb, ne_eqb, eqb-true}
-use Rattle.register.specs.Count.{count, put}
+use Rattle.std.proofs.lemmas.Bool.{cond_both, and_parts, eq-eqb, eqb-true}
+use Rattle.register.specs.Count.{count}
 use Rattle.register.specs.Rule.{quorum}
+use Rattle.register.proofs.Put.{put_at, put_all}
 use Rattle.protocol.specs.Message.{Message, Take, Took, Ask, Told}
 use Rattle.protocol.specs.Step.{Step, Refused, quiet, refuse}
 use Rattle.protocol.specs.Office.{OfficeDone, counted, ended, Desk, last_edition, begin_writing, acknowledge, close, settle, awaits_took, took_on}
@@ -31,13 +32,6 @@ in_without k x (y ∷ xs) apart m =
     (λ same. ⊎_elim (λ (is : x ≡ y). absurd (apart (is ∙ sym (eqb-true k y same)))) (in_without k x xs apart) (Memᴰ.cases_cons m))
     (λ _. ⊎_elim (λ is. Memᴰ.head is) (λ m. Memᴰ.tail (in_without k x xs apart m)) (Memᴰ.cases_cons m))
 
--- what holds of the desk that was put there, and of the others
-at_put : (P : Desk → Type 0) (x k : ℕ) (d : Desk) (g : ℕ → Desk) → (x ≡ k → P d) → ((x ≡ k → ⊥) → P (g x)) → P (put k d g x)
-at_put P x k d g here there = ⊎_elim (λ same. rw (eq-eqb x k same) (here same)) (λ apart. rw (ne_eqb x k apart) (there apart)) (cases_eq x k)
-
-from_put : {A : Type 0} (x k : ℕ) (d : Desk) (g : ℕ → Desk) → (put k d g x).busy ≡ true → (x ≡ k → d.busy ≡ true → A) → ((x ≡ k → ⊥) → (g x).busy ≡ true → A) → A
-from_put x k d g on here there = ⊎_elim (λ same. here same (rw (eq-eqb x k same) at on)) (λ apart. there apart (rw (ne_eqb x k apart) at on)) (cases_eq x k)
-
 module _ {o : Office} (h : Ordered o) (k : ℕ) (d : Desk) where
   abbrev On : Desk → Type 0
   On c = c.busy ≡ true
@@ -46,24 +40,24 @@ module _ {o : Office} (h : Ordered o) (k : ℕ) (d : Desk) where
   begun_ordered : d.busy ≡ true → Ordered (record { desks = store k d o.desks; under_way = o.under_way ++ (k ∷ []) })
   begun_ordered busy =
       record {
-        busy = λ x m. at_put On x k d o.desks.at (λ _. busy) (λ apart. ⊎_elim (h.busy x) (λ m. absurd (apart (Memᴰ.eq_of_singleton m))) (Memᴰ.append_cases o.under_way m));
-        listed = λ x on. from_put x k d o.desks.at on (λ same _. Memᴰ.append_right o.under_way (Memᴰ.head same)) (λ _ on. Memᴰ.append_left (k ∷ []) (h.listed x on));
+        busy = λ x m. put_at On x k d o.desks.at (λ _. busy) (λ apart. ⊎_elim (h.busy x) (λ m. absurd (apart (Memᴰ.eq_of_singleton m))) (Memᴰ.append_cases o.under_way m));
+        listed = put_all (λ x c. On c → Memᴰ x (o.under_way ++ (k ∷ []))) k d o.desks.at (λ _. Memᴰ.append_right o.under_way (Memᴰ.head refl)) (λ x on. Memᴰ.append_left (k ∷ []) (h.listed x on));
       }
 
   -- it is still being written
   counted_ordered : (o.desks.at k).busy ≡ true → d.busy ≡ true → Ordered (record { desks = store k d o.desks; under_way = o.under_way })
   counted_ordered was busy =
       record {
-        busy = λ x m. at_put On x k d o.desks.at (λ _. busy) (λ _. h.busy x m);
-        listed = λ x on. from_put x k d o.desks.at on (λ same _. rw same (h.listed k was)) (λ _ on. h.listed x on);
+        busy = put_all (λ x c. Memᴰ x o.under_way → On c) k d o.desks.at (λ _. busy) h.busy;
+        listed = put_all (λ x c. On c → Memᴰ x o.under_way) k d o.desks.at (λ _. h.listed k was) h.listed;
       }
 
   -- it is no longer being written
   pub ended_ordered : d.busy ≡ false → Ordered (record { desks = store k d o.desks; under_way = without k o.under_way })
   ended_ordered idle =
       record {
-        busy = λ x m. let (apart, at) = not_in_without k x o.under_way m in at_put On x k d o.desks.at (λ same. absurd (apart same)) (λ _. h.busy x at);
-        listed = λ x on. from_put x k d o.desks.at on (λ _ on. absurd (clash (sym idle ∙ on))) (λ apart on. in_without k x o.under_way apart (h.listed x on));
+        busy = λ x m. let (apart, at) = not_in_without k x o.under_way m in put_at On x k d o.desks.at (λ same. absurd (apart same)) (λ _. h.busy x at);
+        listed = λ x. put_at (λ c. On c → Memᴰ x (without k o.under_way)) x k d o.desks.at (λ _ on. cc) (λ apart on. in_without k x o.under_way apart (h.listed x on));
       }
 
 pub empty_ordered : Ordered empty_office

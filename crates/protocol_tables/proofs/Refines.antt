@@ -1,20 +1,18 @@
 -- Every run with tables is a run without bounds.
 -- Assumes nothing.
 use Rattle.std.proofs.Common.{◌≡◌, ℕ, Bool, true, ◌||◌, eqb, ltb, leb, List, [], ◌∷◌, ◌++◌, map, sym, refl, ap, ◌∙◌, subst}
-use mathlib.Core.Path.{fun_ext}
 use mathlib.Core.List.{Memᴰ}
 use Rattle.std.proofs.lemmas.Bool.{cond_both, cond-true}
 use Rattle.register.specs.Count.{count, put}
 use Rattle.register.specs.Note.{Note, none}
 use Rattle.register.specs.Rule.{quorum}
-use Rattle.register.proofs.Put.{put_both, put_same}
+use Rattle.register.proofs.Put.{put_same, put_own, put_cell, put_map}
 use Rattle.protocol.specs.Message.{office, Message, Take, Took, Ask, Told, Packet, One, Each, packets}
 use Rattle.protocol.specs.Step.{Step, Done, Refused, quiet, refuse}
 use Rattle.protocol.specs.Warden.{WardenDone, taken, take_on, warden_on}
 use Rattle.protocol.specs.Office.{OfficeDone, no_writing, counted, ended, Desk, last_edition, begin_writing, resend, acknowledge, close, settle, awaits_took, took_on}
 use Rattle.protocol.specs.Log.{Log}
 use Rattle.protocol.specs.System as plain
-use Rattle.protocol.proofs.Ways.{put_own, own_store}
 use Rattle.protocol.proofs.Follows as F
 use Rattle.protocol_tables.specs.Keep.{Keep, empty, room, store}
 use Rattle.protocol_tables.specs.Warden.{keep_note, warden_keeps}
@@ -22,10 +20,6 @@ use Rattle.protocol_tables.specs.Office.{OfficeStep, post, leave, keep_writing, 
 use Rattle.protocol_tables.specs.System.{System, by_office, by_warden, unbounded, Move, writes, office_hear, warden_hear, reads, reader_ticks, reader_hears, office_restarts, reader_restarts, lies, loses, Run, begin, then, Refines, Holds}
 use Rattle.protocol_tables.specs.System as T
 use Rattle.protocol_tables.proofs.Orders.{Ordered, empty_ordered, started, write_ordered, hear_ordered}
-
--- what the wardens have, after one of them has changed
-pub at_put : (i : ℕ) (d : Keep Note) (w : ℕ → Keep Note) → ◌≡◌ {A = ℕ → ℕ → Note} (put i d.at (λ i'. (w i').at)) (λ i'. (put i d w i').at)
-at_put i d w = fun_ext (put_both (λ _ (a : ℕ → Note) (b : Keep Note). a ≡ b.at) i d.at d (λ i'. (w i').at) w refl (λ _. refl))
 
 module _ (n f : ℕ) (liar : ℕ → Bool) (s : System) where
   abbrev Plain : plain.System → Type 0
@@ -85,7 +79,7 @@ module _ (n f : ℕ) (liar : ℕ → Bool) (s : System) where
     Wardens w bag log = Plain (record { office = s.office.desks.at; warden = w; reader = s.reader; bag = bag; log = log })
 
     same_plain : (bag : List Packet) → Wardens (put i (put k ((s.warden i).at k) (s.warden i).at) (λ i. (s.warden i).at)) bag s.log → Wardens (λ i'. (put i (s.warden i) s.warden i').at) bag s.log
-    same_plain bag run = subst (λ (w : ℕ → ℕ → Note). Wardens w bag s.log) (own_store i k (λ i. (s.warden i).at) ∙ ap (λ (w : ℕ → Keep Note). λ i. (w i).at) (sym (put_own i s.warden))) run
+    same_plain bag run = subst (λ (w : ℕ → ℕ → Note). Wardens w bag s.log) (put_cell i k (λ i. (s.warden i).at) ∙ ap (λ (w : ℕ → Keep Note). λ i. (w i).at) (sym (put_own i s.warden))) run
 
     unchanged_plain : Plain (unbounded s) → Wardens (λ i'. (put i (s.warden i) s.warden i').at) s.bag s.log
     unchanged_plain run = subst (λ (w : ℕ → ℕ → Note). Wardens w s.bag s.log) (ap (λ (w : ℕ → Keep Note). λ i. (w i).at) (sym (put_own i s.warden))) run
@@ -96,7 +90,7 @@ module _ (n f : ℕ) (liar : ℕ → Bool) (s : System) where
     took_plain : (x : Note) → Plain (unbounded s) → After (record { next = x; sends = One office (Took x.edition); outcome = Done taken })
     took_plain x run on =
         cond_both (room k (s.warden i)) (record { next = store k x (s.warden i); sends = One office (Took x.edition); outcome = Done taken }) (refuse (s.warden i) 6) (λ (o : Step (Keep Note) WardenDone). Plain (unbounded (by_warden n i k o s)))
-        (λ _. subst (λ (w : ℕ → ℕ → Note). Wardens w (packets n i k (One office (Took x.edition)) ++ s.bag) (plain.warden_event i k (put k x (s.warden i).at k) (Done taken) ++ s.log)) (at_put i (store k x (s.warden i)) s.warden) (rw (put_same k x (s.warden i).at) on))
+        (λ _. subst (λ (w : ℕ → ℕ → Note). Wardens w (packets n i k (One office (Took x.edition)) ++ s.bag) (plain.warden_event i k (put k x (s.warden i).at k) (Done taken) ++ s.log)) (put_map (λ (d : Keep Note). d.at) i (store k x (s.warden i)) s.warden) (rw (put_same k x (s.warden i).at) on))
         (λ _. unchanged_plain run)
 
     warden_plain : (from to : ℕ) (m : Message) → Plain (unbounded s) → Plain (plain.by_warden n i k (warden_on ((s.warden i).at k) from m) (unbounded s)) → Plain (unbounded (by_warden n i k (warden_keeps (s.warden i) from k m) s))
@@ -131,7 +125,7 @@ module _ (n f : ℕ) (liar : ℕ → Bool) where
   kept_by {s} (loses i) h =
       record {
         order = h.order;
-        run = subst (λ (w : ℕ → ℕ → Note). plain.Run n f liar (record { office = s.office.desks.at; warden = w; reader = s.reader; bag = s.bag; log = (plain.warden_lost i (unbounded s)).log })) (at_put i (empty none) s.warden) (plain.then h.run (plain.loses i));
+        run = subst (λ (w : ℕ → ℕ → Note). plain.Run n f liar (record { office = s.office.desks.at; warden = w; reader = s.reader; bag = s.bag; log = (plain.warden_lost i (unbounded s)).log })) (put_map (λ (d : Keep Note). d.at) i (empty none) s.warden) (plain.then h.run (plain.loses i));
       }
 
   pub run_kept : {s : System} → Run n f liar s → Kept n f liar s

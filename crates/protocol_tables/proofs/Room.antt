@@ -4,22 +4,22 @@ use Rattle.std.proofs.Common.{◌≡◌, ℕ, ◌-◌, ◌≤◌, Bool, true, fa
 use mathlib.Core.List.Memᴰ
 use mathlib.Core.List.{Memᴰ}
 use borrow.Author.Tests.{clash}
-use Rattle.std.proofs.lemmas.Bool.{cond_both, and_parts, cases_eq, cases_Bool, eq-eqb, ne_eqb, eqb-true, lt-ltb}
+use Rattle.std.proofs.lemmas.Bool.{cond_both, and_parts, cases_Bool, eq-eqb, eqb-true, lt-ltb}
 use Rattle.register.specs.Count.{count, put}
 use Rattle.register.specs.Note.{Note, none}
 use Rattle.register.specs.Rule.{quorum, Reading, Found, Nothing, pick}
-use Rattle.register.proofs.Put.{put_all}
+use Rattle.register.proofs.Put.{put_all, put_both, put_stay}
 use Rattle.protocol.specs.Message.{office, Message, Take, Took, Ask, Told, Packet, Sends, One, Each, packets}
 use Rattle.protocol.specs.Message as words
 use Rattle.protocol.specs.Step.{Step, Done, Refused, quiet, refuse}
 use Rattle.protocol.specs.Warden.{WardenDone, taken, take_on}
-use Rattle.protocol.specs.Office.{OfficeDone, counted, ended, Desk, empty_desk, last_edition, begin_writing, acknowledge, close, settle, awaits_took, took_on}
+use Rattle.protocol.specs.Office.{OfficeDone, counted, ended, Desk, empty_desk, last_edition, begin_writing, acknowledge, close, settle, awaits_took, took_on, office_on}
 use Rattle.protocol.specs.Reader.{ReaderDone, asked, retried, no_reading, heard, undecided, unsure, Reader, more_rounds, used_up, in_round, begin_round, read_on, decided, ask_again, reader_tick, awaits_told, hear, over, decide, settle_round, told_on, reader_on}
 use Rattle.protocol.specs.Log as L
 use Rattle.protocol.proofs.Packets.{of_each}
 use Rattle.protocol_tables.specs.Keep.{most, Keep, empty, room, store}
 use Rattle.protocol_tables.specs.Warden.{keep_note, warden_keeps}
-use Rattle.protocol_tables.specs.Office.{Office, Letter, OfficeStep, post, leave, keep_writing, office_writes, keep_counting, office_hears, again, office_ticks}
+use Rattle.protocol_tables.specs.Office.{Office, Letter, OfficeStep, post, leave, without, counts, ends, keep_writing, office_writes, keep_counting, office_hears, again, office_ticks}
 use Rattle.protocol_tables.specs.System.{System, Move, writes, office_tick, office_hear, warden_hear, reads, reader_ticks, reader_hears, office_restarts, reader_restarts, lies, loses, Run, begin, then}
 use Rattle.protocol_tables.specs.System as T
 use Rattle.protocol_tables.specs.Progress.{NeverFull}
@@ -47,9 +47,9 @@ storing {o} h k d ks roomy =
       fits = record {
         counted = store_counted h.counted k d;
         few = let old = h.few in grind arith;
-        busy = λ x e. ⊎_elim (λ same. rw (eq-eqb x k same)) (λ apart. rw (ne_eqb x k apart) (h.busy x (rw (ne_eqb x k apart) at e))) (cases_eq x k);
+        busy = put_both (λ _ (c : Desk) b. c.busy ≡ true → b ≡ true) k d true o.desks.at o.desks.had (λ _. refl) h.busy;
       };
-      grows = λ x e. ⊎_elim (λ same. rw (eq-eqb x k same)) (λ apart. rw (ne_eqb x k apart) e) (cases_eq x k);
+      grows = put_stay k o.desks.had;
     }
 
 pub write_goes : {o : Office} → OfficeFits o → (k : ℕ) (v : List ℕ) → OfficeGoes o (office_writes o k v).next
@@ -162,9 +162,6 @@ round_plain k left how q = asks_plain (begin_round k left how q).sends (round_as
 tick_plain : (n f : ℕ) (q : Reader) → Plain (reader_tick n f q).sends
 tick_plain n f q = asks_plain (reader_tick n f q).sends (tick_asks n f q)
 
-decide_plain : (q : Reader) (c : Reading) → Plain (decide q c).sends
-decide_plain q c = asks_plain (decide q c).sends (decide_asks q c)
-
 reader_plain : (n f : ℕ) (q : Reader) (from k : ℕ) (m : Message) → Plain (reader_on n f q from k m).sends
 reader_plain n f q from k m = asks_plain (reader_on n f q from k m).sends (reader_asks n f q from k m)
 
@@ -237,7 +234,7 @@ keeps s i from k (Take x) h known =
     same = (h.notes i, h.within i)
 
     more : from ≡ office → Had (store k x d)
-    more sent = (store_counted (h.notes i) k x, λ z e. ⊎_elim (λ (is : z ≡ k). rw is (known refl sent)) (λ apart. h.within i z (rw (ne_eqb z k apart) at e)) (cases_eq z k))
+    more sent = (store_counted (h.notes i) k x, put_all (λ z b. b ≡ true → s.office.desks.had z ≡ true) k true d.had (λ _. known refl sent) (h.within i))
 keeps s i from k (Took e) h known = (h.notes i, h.within i)
 keeps s i from k (Ask r) h known = (h.notes i, h.within i)
 keeps s i from k (Told r x) h known = (h.notes i, h.within i)
@@ -256,27 +253,12 @@ written_had s n k v =
     Had : OfficeStep → Type 0
     Had o = (l : Letter) → Memᴰ l o.letters → (p : Packet) → Memᴰ p (packets n office l.note l.sends) → o.next.desks.had p.note ≡ true
 
-no_letters : (s : System) (n f from k : ℕ) (m : Message) → (office_hears n f s.office from k m).letters ≡ []
-no_letters s n f from k (Take x) = refl
-no_letters s n f from k (Took e) =
-    cond_both (ltb from n) (took_on n f d from e) (refuse d 1) After
-    (λ _. cond_both (awaits_took from e d) (settle n f (acknowledge from d)) (refuse d 4) After
-    (λ _. cond_both (quorum n f (count n (acknowledge from d).acks)) (quiet (close (acknowledge from d)) ended) (quiet (acknowledge from d) counted) After (λ _. refl) (λ _. refl))
-    (λ _. refl))
+-- when something comes to the office, it sends nothing
+pub no_letters : (o : Office) (k : ℕ) (st : Step Desk OfficeDone) → (keep_counting o k st).letters ≡ []
+no_letters o k st =
+    cond_both (counts st.outcome) (record { next = record { desks = store k st.next o.desks; under_way = cond (ends st.outcome) (without k o.under_way) o.under_way }; letters = []; outcome = st.outcome }) (leave o st.outcome) (λ (s : OfficeStep). s.letters ≡ [])
     (λ _. refl)
-  where
-    d : Desk
-    d = s.office.desks.at k
-
-    After : Step Desk OfficeDone → Type 0
-    After st = (keep_counting s.office k st).letters ≡ []
-no_letters s n f from k (Ask r) = refl
-no_letters s n f from k (Told r x) = refl
-
--- each letter of a tick is about a note that is being written
-pub again_had : (d : Keep Desk) (ks : List ℕ) (l : Letter) → Memᴰ l (map (again d) ks) → (k : ℕ) × Memᴰ k ks × (l ≡ again d k)
-again_had d [] l m = absurd (Memᴰ.not-nil m)
-again_had d (k ∷ ks) l m = ⊎_elim (λ is. (k, Memᴰ.head refl, is)) (λ m. let (k', at, is) = again_had d ks l m in (k', Memᴰ.tail at, is)) (Memᴰ.cases_cons m)
+    (λ _. refl)
 
 module _ (n f : ℕ) (liar : ℕ → Bool) where
   reader_fits : (s : System) (j : ℕ) (o : Step Reader ReaderDone) → Plain o.sends → Fits s → Fits (T.by_reader n j o s)
@@ -288,10 +270,10 @@ module _ (n f : ℕ) (liar : ℕ → Bool) where
     where
       sent : (l : Letter) → Memᴰ l (map (again s.office.desks) s.office.under_way) → (p : Packet) → Memᴰ p (packets n office l.note l.sends) → s.office.desks.had p.note ≡ true
       sent l m p at =
-          let (k, listed, is) = again_had s.office.desks s.office.under_way l m in
-          rw (note_of_packet n k (Take (s.office.desks.at k).now) p (rw is at at)) (h.office_fits.busy k ((run_kept n f liar run).order.busy k listed))
+          let (k, listed, is) = Memᴰ.of_map (again s.office.desks) s.office.under_way m in
+          rw (note_of_packet n k (Take (s.office.desks.at k).now) p (rw (← is) at at)) (h.office_fits.busy k ((run_kept n f liar run).order.busy k listed))
   fits_by {s} (office_hear p m to) run h =
-      by_office_fits n (office_hears n f s.office p.from p.note p.message) (T.by_office n p.note (office_hears n f s.office p.from p.note p.message) s).log (hear_goes h.office_fits n f p.from p.note p.message) (λ l at. absurd (Memᴰ.not-nil (rw (no_letters s n f p.from p.note p.message) at at))) h
+      by_office_fits n (office_hears n f s.office p.from p.note p.message) (T.by_office n p.note (office_hears n f s.office p.from p.note p.message) s).log (hear_goes h.office_fits n f p.from p.note p.message) (λ l at. absurd (Memᴰ.not-nil (rw (no_letters s.office p.note (office_on n f (s.office.desks.at p.note) p.from p.message)) at at))) h
   fits_by {s} (warden_hear i p l honest m to) run h =
       let (count_of, within) = keeps s i p.from p.note p.message h (h.posted p m) in
       warden_fits i (warden_keeps (s.warden i) p.from p.note p.message).next (packets n i p.note (warden_keeps (s.warden i) p.from p.note p.message).sends) (T.by_warden n i p.note (warden_keeps (s.warden i) p.from p.note p.message) s).log count_of within (plain_sends n i p.note (warden_keeps (s.warden i) p.from p.note p.message).sends (warden_plain (s.warden i) p.from p.note p.message)) h
@@ -299,7 +281,8 @@ module _ (n f : ℕ) (liar : ℕ → Bool) where
   fits_by {s} (reader_ticks j fair) run h = reader_fits s j (reader_tick n f (s.reader j)) (tick_plain n f (s.reader j)) h
   fits_by {s} (reader_hears j p fair m to) run h = reader_fits s j (reader_on n f (s.reader j) p.from p.note p.message) (reader_plain n f (s.reader j) p.from p.note p.message) h
   fits_by office_restarts run h =
-      record { office_fits = record { counted = record { numbers = h.office_fits.counted.numbers; once = h.office_fits.counted.once; listed = h.office_fits.counted.listed; had = h.office_fits.counted.had; many = h.office_fits.counted.many }; few = h.office_fits.few; busy = h.office_fits.busy }; notes = h.notes; within = h.within; posted = h.posted }
+      let c = h.office_fits.counted in
+      record { office_fits = record { counted = record { numbers = c.numbers; once = c.once; had = c.had; many = c.many }; few = h.office_fits.few; busy = h.office_fits.busy }; notes = h.notes; within = h.within; posted = h.posted }
   fits_by {s} (reader_restarts j first up) run h = record { office_fits = h.office_fits; notes = h.notes; within = h.within; posted = h.posted }
   fits_by {s} (lies p so other) run h = also_fits s.reader (p ∷ []) s.log (λ p' m _ from. other (rw (Memᴰ.eq_of_singleton m) at from)) h
   fits_by {s} (loses i) run h = warden_fits i (empty none) [] (L.Lost i ∷ s.log) (empty_counted none) (λ k e. absurd (clash e)) (λ p m so. Memᴰ.not-nil m) h
@@ -333,16 +316,16 @@ never_full n f liar s run i p m = go p.from p.note p.message (h.posted p m)
         cond_both (eqb from office) (take_on y x) (refuse y 1) After
         (λ sent. cond_both (ltb y.edition x.edition) (record { next = x; sends = One office (Took x.edition); outcome = Done taken }) (record { next = y; sends = One office (Took x.edition); outcome = Refused 2 }) After
         (λ _. cond_both (room k (s.warden i)) (record { next = store k x (s.warden i); sends = One office (Took x.edition); outcome = Done taken }) (refuse (s.warden i) 6) (λ (o : Step (Keep Note) WardenDone). o.outcome ≡ Refused 6 → ⊥)
-        (λ _ e. let z : ◌≡◌ {A = ℕ} 0 1 = cc in omega arith)
+        (λ _ e. cc)
         (λ full _. clash (sym full ∙ roomy s i k h (known refl (eqb-true from office sent)))))
-        (λ _ e. let z : ◌≡◌ {A = ℕ} 2 6 = cc in omega arith))
-        (λ _ e. let z : ◌≡◌ {A = ℕ} 1 6 = cc in omega arith)
+        (λ _ e. cc))
+        (λ _ e. cc)
       where
         y : Note
         y = (s.warden i).at k
 
         After : Step Note WardenDone → Type 0
         After o = (keep_note (s.warden i) k o).outcome ≡ Refused 6 → ⊥
-    go from k (Took e) known = λ e. let z : ◌≡◌ {A = ℕ} 1 6 = cc in omega arith
-    go from k (Ask r) known = λ e. let z : ◌≡◌ {A = ℕ} 0 1 = cc in omega arith
-    go from k (Told r x) known = λ e. let z : ◌≡◌ {A = ℕ} 1 6 = cc in omega arith
+    go from k (Took e) known = λ e. cc
+    go from k (Ask r) known = λ e. cc
+    go from k (Told r x) known = λ e. cc

@@ -9,7 +9,7 @@ use Rattle.register.specs.Rule.{answers}
 use Rattle.register.specs.Model.{Writing, note, begun, acked, closed, stored, Round, offering, hearing, World, new_office, new_warden, new_round, Step, begins, stores, hears, ends, opens, tells, listens, loses}
 use Rattle.register.specs.Progress.{missing, Moving, fair, Way, here, next, Finishes}
 use Rattle.register.proofs.Counting.{within, cover, fewer, nobody, beyond}
-use Rattle.register.proofs.Put.{put_same}
+use Rattle.register.proofs.Put.{put_same, put_stay}
 use Rattle.register.proofs.Grows.{step_grows_round}
 use Rattle.register.proofs.Keeps.{Kept, step_kept, reach_kept}
 
@@ -22,9 +22,6 @@ module _ (n : ℕ) (liar : ℕ → Bool) where
   pub stay : (known known' : ℕ → Bool) → ((i : ℕ) → known i ≡ true → known' i ≡ true) → missing n liar known' ≤ missing n liar known
   stay known known' h = within n (λ i. not (liar i || known' i)) (λ i. not (liar i || known i)) (λ i _ e. let up = h i in grind arith)
 
-  pub put_stay : (k : ℕ) (known : ℕ → Bool) → (i : ℕ) → known i ≡ true → put k true known i ≡ true
-  put_stay k known i e = grind arith
-
   pub fall : (known : ℕ → Bool) (k : ℕ) → k < n → liar k ≡ false → known k ≡ false → missing n liar (put k true known) < missing n liar known
   fall known k l fair new = fewer n (λ i. not (liar i || put k true known i)) (λ i. not (liar i || known i)) (λ i _ e. let up = put_stay k known i in grind arith) k l (grind arith) (grind arith)
 
@@ -32,7 +29,7 @@ module _ {n f : ℕ} {liar : ℕ → Bool} where
   acks_stay : {w v : World} → Step n f liar w v → v.office.edition ≡ w.office.edition → missing n liar v.office.acks ≤ missing n liar w.office.acks
   acks_stay (begins v done) same = absurd (omega arith)
   acks_stay (stores i e begun late) same = omega arith
-  acks_stay {w} (hears i l writing taken) same = stay n liar w.office.acks (put i true w.office.acks) (put_stay n liar i w.office.acks)
+  acks_stay {w} (hears i l writing taken) same = stay n liar w.office.acks (put i true w.office.acks) (put_stay i w.office.acks)
   acks_stay (ends writing enough) same = omega arith
   acks_stay (opens r shut) same = omega arith
   acks_stay (tells r i honest live) same = omega arith
