@@ -15,7 +15,7 @@ use Rattle.protocol.specs.Office.{OfficeDone, no_writing, counted, ended, Desk, 
 use Rattle.protocol.specs.Reader.{ReaderDone, asked, retried, no_reading, heard, Reader, more_rounds, used_up, in_round, begin_round, read_on, decided, ask_again, reader_tick, awaits_told, hear, decide, settle_round, told_on, reader_on}
 use Rattle.protocol.specs.System.{System, Move, writes, office_ticks, office_hears, warden_hears, reads, reader_ticks, reader_hears, office_restarts, reader_restarts, lies, loses}
 use Rattle.protocol.specs.Progress.{restarts, unwritten, unheard, Measured}
-use Rattle.protocol.proofs.ReaderSteps.{awaited}
+use Rattle.protocol.proofs.PartyCases.{awaited}
 use Rattle.protocol.proofs.Rounds.{same}
 
 module _ (n f : ℕ) (liar : ℕ → Bool) where

@@ -24,24 +24,9 @@ use Rattle.protocol.specs.Promise.{Few, Settled, Busy, RightRead}
 use Rattle.protocol.specs.System.{reader_event}
 use Rattle.protocol.proofs.Logs.{begun_in, ended_in, ended_most, before_ended, before_high, behind_lapsed, Rights}
 use Rattle.protocol.proofs.Packets.{of_each}
+use Rattle.protocol.proofs.PartyCases.{awaited}
 use Rattle.protocol.proofs.Sound.{SoundReader}
 use Rattle.protocol.proofs.Shows.{ShowsRound, Seen, also, readered, Shows, Followed, AllMean, more_mean, still_mean, nothing_sent, Outside, Outsides, Unsaids, desk_log, warden_log, changes, stays}
-
--- what a reader waits for when it waits
-pub record Awaited (n f i k r : ℕ) (q : Reader) : Type 0 where
-  pub busy : q.busy ≡ true
-  pub note : k ≡ q.note
-  pub round : r ≡ q.round
-  pub new : q.replies.heard i ≡ false
-  pub short : decided n f q ≡ false
-
-pub awaited : (n f i k r : ℕ) (q : Reader) → awaits_told n f i k r q ≡ true → Awaited n f i k r q
-awaited n f i k r q so =
-    let (busy, rest) = and_parts q.busy (eqb k q.note && (eqb r q.round && (not (q.replies.heard i) && not (decided n f q)))) so in
-    let (note, rest) = and_parts (eqb k q.note) (eqb r q.round && (not (q.replies.heard i) && not (decided n f q))) rest in
-    let (round, rest) = and_parts (eqb r q.round) (not (q.replies.heard i) && not (decided n f q)) rest in
-    let (new, short) = and_parts (not (q.replies.heard i)) (not (decided n f q)) rest in
-    record { busy = busy; note = eqb-true k q.note note; round = eqb-true r q.round round; new = not-true (q.replies.heard i) new; short = not-true (decided n f q) short }
 
 module _ (n f : ℕ) (liar : ℕ → Bool) (k j : ℕ) where
   ask_each : (w : World) (j' k' r : ℕ) → (j' ≡ j → k' ≡ k → (w.round r).live ≡ true) → AllMean n f liar k j w (packets n j' k' (Each (Ask r)))

@@ -25,6 +25,7 @@ use Rattle.protocol.specs.System as S
 use Rattle.protocol.specs.Progress.{Way, Decision, sure, doubtful, open_still, Decided, ReadingEnds, ReadingAnswers}
 use Rattle.protocol.proofs.Logs.{behind_lapsed}
 use Rattle.protocol.proofs.Packets.{at_each}
+use Rattle.protocol.proofs.PartyCases.{opening}
 use Rattle.protocol.proofs.Shows.{Shows, seen, Outside, warden_log}
 use Rattle.protocol.proofs.ReaderSteps.{doubts_right}
 use Rattle.protocol.proofs.Follows.{run_kept}
@@ -126,10 +127,6 @@ module _ (n f : ℕ) (liar : ℕ → Bool) (w : World) (r : ℕ) where
       go : (c : Reading) → pick n f p n ≡ c → c ≡ Found last
       go (Found x) picked = ap Found (stands.unique x last (rw m.replies (pick_found n f p n x picked)) (rw m.replies is_read))
       go Nothing picked = absurd (pick_nothing n f p picked last is_read)
-
--- the round begins
-abbrev pub opening : (k c : ℕ) → ReaderDone → Reader → steps.Step Reader ReaderDone
-opening k c how q = record { next = in_round k c q; sends = Each (Ask q.next); outcome = Done how }
 
 -- a round that begins, by an event of its own, while the note is not being written reads the last note that was written
 module _ (n f : ℕ) (liar : ℕ → Bool) (least : 4 * f < n) (s : System) (j k c : ℕ) (own : liar j ≡ false) (how : ReaderDone) (x : Event) (event : reader_event j (in_round k c (s.reader j)) (Done how) ≡ x ∷ []) (outside : Outside k x) (calm : (s.office k).busy ≡ false) (few : Few n f liar j k (x ∷ s.log)) where

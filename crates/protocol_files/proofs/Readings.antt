@@ -19,8 +19,9 @@ use Rattle.protocol.specs.System.{reader_event}
 use Rattle.protocol.proofs.Logs.{begun_most}
 use Rattle.protocol.proofs.Laws.{good_logs}
 use Rattle.protocol.proofs.Packets.{at_each}
+use Rattle.protocol.proofs.PartyCases.{opening}
 use Rattle.protocol.proofs.ReaderSteps.{doubts_right}
-use Rattle.protocol.proofs.Readings.{opening, begins}
+use Rattle.protocol.proofs.Readings.{begins}
 use Rattle.protocol.proofs.Follows as F
 use Rattle.protocol_tables.proofs.Refines as T
 use Rattle.protocol_files.specs.System.{System, by_reader, reads, Run, then}
