@@ -14,7 +14,6 @@ use Rattle.register.proofs.Counting.{within, either, nobody}
 use Rattle.register.proofs.Put.{put_same}
 use Rattle.register.proofs.Stands as Q
 use Rattle.register.proofs.Picks.{pick_found, pick_nothing}
-use Rattle.protocol.specs.Message.{Ask, Each}
 use Rattle.protocol.specs.Step.{Done, quiet, refuse}
 use Rattle.protocol.specs.Step as steps
 use Rattle.protocol.specs.Reader.{ReaderDone, asked, retried, no_reading, Reader, last_round, more_rounds, used_up, in_round, begin_round, decided, ask_again, decide}

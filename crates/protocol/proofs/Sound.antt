@@ -1,16 +1,15 @@
 -- What each party keeps true by itself: a writing that has all it waits for is no longer under way, nor is a round that came to a note.
 -- Assumes nothing.
-use Rattle.std.proofs.Common.{◌≡◌, ℕ, ◌-◌, ◌<◌, true, false, cond, ◌||◌, ltb, leb, List, refl, arith}
+use Rattle.std.proofs.Common.{◌≡◌, ℕ, ◌-◌, ◌<◌, true, false, List, refl, arith}
 use borrow.Author.Tests.{clash}
-use Rattle.std.proofs.lemmas.Bool.{cond_both, both_ways, ltb-true}
+use Rattle.std.proofs.lemmas.Bool.{cond_both, both_ways}
 use Rattle.register.specs.Count.{count}
-use Rattle.register.specs.Note.{Note}
-use Rattle.register.specs.Rule.{quorum, Reading, Found, Nothing, pick}
+use Rattle.register.specs.Rule.{quorum, Reading, Nothing, pick}
 use Rattle.register.proofs.Counting.{nobody}
-use Rattle.protocol.specs.Message.{Message, Take, Took, Ask, Told, Each}
-use Rattle.protocol.specs.Step.{Step, Done, quiet, refuse}
-use Rattle.protocol.specs.Office.{OfficeDone, no_writing, counted, ended, Desk, last_edition, begin_writing, write_on, resend, office_tick, acknowledge, close, settle, awaits_took, took_on, office_on}
-use Rattle.protocol.specs.Reader.{ReaderDone, no_reading, heard, undecided, unsure, Reader, used_up, in_round, begin_round, more_rounds, asked, retried, read_on, decided, ask_again, reader_tick, awaits_told, hear, over, decide, settle_round, told_on, reader_on}
+use Rattle.protocol.specs.Message.{Message}
+use Rattle.protocol.specs.Step.{Step, quiet}
+use Rattle.protocol.specs.Office.{OfficeDone, no_writing, Desk, write_on, resend, office_tick, office_on}
+use Rattle.protocol.specs.Reader.{ReaderDone, Reader, in_round, more_rounds, asked, read_on, decided, reader_tick, hear, over, reader_on}
 use Rattle.protocol.proofs.PartyCases.{WriteCase, write_begins, write_refused, write_case, OfficeCase, took_counts, took_ends, office_passes, office_case, RoundCase, round_opens, round_refused, round_case, TickCase, tick_opens, tick_refused, tick_asks, tick_idle, tick_case, DecideCase, decide_reads, decide_waits, decide_doubts, decide_case, ReaderCase, told_counts, told_decides, reader_passes, reader_case}
 
 -- a writing under way waits for more wardens

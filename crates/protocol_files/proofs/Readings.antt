@@ -19,7 +19,7 @@ use Rattle.protocol.specs.System.{reader_event}
 use Rattle.protocol.proofs.Logs.{begun_most}
 use Rattle.protocol.proofs.Laws.{good_logs}
 use Rattle.protocol.proofs.Packets.{at_each}
-use Rattle.protocol.proofs.PartyCases.{opening}
+use Rattle.protocol.proofs.PartyCases.{opening, DecideCase, decide_reads, decide_waits, decide_doubts, decide_case}
 use Rattle.protocol.proofs.ReaderSteps.{doubts_right}
 use Rattle.protocol.proofs.Readings.{begins}
 use Rattle.protocol.proofs.Follows as F
@@ -158,17 +158,14 @@ module _ (n f : ℕ) (liar : ℕ → Bool) (least : 4 * f < n) (s : System) (run
   round_reads : Run n f liar begun → (t : System) × Way n f liar begun t × Answer t
   round_reads run =
       let (t, q, way, ends) = hears_all n f liar least enough_honest begun j k r more_rounds (suc r) own begun (waiting run) in
-      (t, way, comes_to t (way_run n f liar run way) q ends (pick n f q.replies n) refl ends.next ends.log)
+      (t, way, comes_to t (way_run n f liar run way) q ends (decide_case q (pick n f q.replies n)) refl ends.next ends.log)
     where
-      comes_to : (t : System) → Run n f liar t → (q : Reader) → Ends n f liar least enough_honest begun j k r more_rounds (suc r) own q t → (c : Reading) → pick n f q.replies n ≡ c → t.reader j ≡ (decide q c).next → t.log ≡ reader_event j (decide q c).next (decide q c).outcome ++ begun.log → Answer t
-      comes_to t run q ends (Found y) picked next log =
+      comes_to : (t : System) → Run n f liar t → (q : Reader) → Ends n f liar least enough_honest begun j k r more_rounds (suc r) own q t → {c : Reading} {o : Step Reader ReaderDone} → DecideCase q c o → pick n f q.replies n ≡ c → t.reader j ≡ o.next → t.log ≡ reader_event j o.next o.outcome ++ begun.log → Answer t
+      comes_to t run q ends (decide_reads y) picked next log =
           let said : t.log ≡ Read j k y.edition y.value ∷ begun.log = log ∙ ap (λ (k : ℕ). Read j k y.edition y.value ∷ begun.log) ends.reader.note in
           said ∙ ap (λ (y : Note). Read j k y.edition y.value ∷ begun.log) (reads_last n f liar least j k x s.log few rest t run y said)
-      comes_to t run q ends Nothing picked next log =
-          cond_both (ltb 0 q.left) (quiet q undecided) (quiet (over q) unsure) (λ (o : Step Reader ReaderDone). t.reader j ≡ o.next → t.log ≡ reader_event j o.next o.outcome ++ begun.log → Answer t)
-          (λ _ next log. absurd (doubts t run q next ends.reader.busy ends.reader.note ends.told picked log))
-          (λ last _ _. absurd (omega (arith, ltb-false 0 q.left last, ends.reader.left)))
-          next log
+      comes_to t run q ends (decide_waits more) picked next log = absurd (doubts t run q next ends.reader.busy ends.reader.note ends.told picked log)
+      comes_to t run q ends (decide_doubts last) picked next log = absurd (omega (arith, ends.reader.left))
 
 pub reading_answers_lem : ReadingAnswers
 reading_answers_lem n f liar least s run all j k own fresh idle few =
