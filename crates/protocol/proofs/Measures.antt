@@ -15,7 +15,7 @@ use Rattle.protocol.specs.Office.{OfficeDone, no_writing, counted, ended, Desk, 
 use Rattle.protocol.specs.Reader.{ReaderDone, asked, heard, Reader, more_rounds, read_on, decided, reader_tick, awaits_told, hear, decide, settle_round, told_on, reader_on}
 use Rattle.protocol.specs.System.{System, Move, writes, office_ticks, office_hears, warden_hears, reads, reader_ticks, reader_hears, office_restarts, reader_restarts, lies, loses}
 use Rattle.protocol.specs.Progress.{restarts, unwritten, unheard, Measured}
-use Rattle.protocol.proofs.PartyCases.{WriteCase, write_begins, write_refused, write_case, OfficeCase, took_counts, took_ends, office_passes, office_case, RoundCase, round_opens, round_refused, round_case, TickCase, tick_opens, tick_refused, tick_asks, tick_idle, tick_case, awaited, ReaderCase, told_counts, told_decides, reader_passes, reader_case}
+use Rattle.protocol.proofs.PartyCases.{WriteCase, write_begins, write_refused, write_case, OfficeCase, took_counts, took_ends, office_passes, office_case, RoundCase, round_opens, round_refused, round_case, TickCase, tick_opens, tick_refused, tick_again, tick_idle, tick_case, awaited, ReaderCase, told_counts, told_decides, reader_passes, reader_case}
 use Rattle.protocol.proofs.Rounds.{same}
 
 module _ (n f : ℕ) (liar : ℕ → Bool) where
@@ -83,7 +83,7 @@ module _ (n f : ℕ) (liar : ℕ → Bool) where
       go : {o : Step Reader ReaderDone} → TickCase n f q o → ReaderStays q o.next
       go (tick_opens busy full) is = absurd (omega arith)
       go tick_refused is = omega arith
-      go (tick_asks busy) is = omega arith
+      go (tick_again busy) is = omega arith
       go tick_idle is = omega arith
 
   reader_stays : (q : Reader) (from k : ℕ) (m : Message) → ReaderStays q (reader_on n f q from k m).next

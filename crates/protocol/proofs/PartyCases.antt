@@ -86,7 +86,7 @@ round_case k left how q = cond_both (used_up q) (refuse q 5) (opening k left how
 pub data TickCase (n f : ℕ) (q : Reader) : Step Reader ReaderDone → Type 0 where
   tick_opens : q.busy ≡ true → decided n f q ≡ true → TickCase n f q (opening q.note (q.left - 1) retried q)
   tick_refused : TickCase n f q (refuse q 5)
-  tick_asks : q.busy ≡ true → TickCase n f q (ask_again q)
+  tick_again : q.busy ≡ true → TickCase n f q (ask_again q)
   tick_idle : TickCase n f q (quiet q no_reading)
 
 pub tick_case : (n f : ℕ) (q : Reader) → TickCase n f q (reader_tick n f q)
@@ -94,7 +94,7 @@ tick_case n f q =
     cond_both q.busy (cond (decided n f q) next (ask_again q)) (quiet q no_reading) (TickCase n f q)
     (λ on. cond_both (decided n f q) next (ask_again q) (TickCase n f q)
     (λ full. cond_both (used_up q) (refuse q 5) (opening q.note (q.left - 1) retried q) (TickCase n f q) (λ _. tick_refused) (λ _. tick_opens on full))
-    (λ _. tick_asks on))
+    (λ _. tick_again on))
     (λ _. tick_idle)
   where
     next : Step Reader ReaderDone

@@ -24,7 +24,7 @@ use Rattle.protocol.specs.Promise.{Few, Settled, Busy, RightRead}
 use Rattle.protocol.specs.System.{reader_event}
 use Rattle.protocol.proofs.Logs.{begun_in, ended_in, ended_most, before_ended, before_high, behind_lapsed, Rights}
 use Rattle.protocol.proofs.Packets.{of_each}
-use Rattle.protocol.proofs.PartyCases.{RoundCase, round_opens, round_refused, round_case, TickCase, tick_opens, tick_refused, tick_asks, tick_idle, tick_case, DecideCase, decide_reads, decide_waits, decide_doubts, decide_case, Awaited, ReaderCase, told_counts, told_decides, reader_passes, reader_case}
+use Rattle.protocol.proofs.PartyCases.{RoundCase, round_opens, round_refused, round_case, TickCase, tick_opens, tick_refused, tick_again, tick_idle, tick_case, DecideCase, decide_reads, decide_waits, decide_doubts, decide_case, Awaited, ReaderCase, told_counts, told_decides, reader_passes, reader_case}
 use Rattle.protocol.proofs.Sound.{SoundReader}
 use Rattle.protocol.proofs.Shows.{ShowsRound, Seen, also, readered, Shows, Followed, AllMean, more_mean, still_mean, nothing_sent, Outside, Outsides, Unsaids, desk_log, warden_log, changes, stays}
 
@@ -235,7 +235,7 @@ module _ (n f : ℕ) (liar : ℕ → Bool) (k j : ℕ) where
           λ same. let (w, reach, h) = at in (rw same (record { due = h.reader.reads busy same; busy = doubts_right busy same full w reach h (sound.nothing busy full); more = omega (arith, h.reader.left busy same, sound.more busy full) }), tt),
         )
         go tick_refused = (at, λ _. tt)
-        go (tick_asks busy) = (stays n f liar k j (packets n j k' (Each (Ask z.reader.round))) [] (λ w _ h. ask_each w j k' z.reader.round (λ _ same. (h.reader.now busy same).live)) tt tt at, λ _. tt)
+        go (tick_again busy) = (stays n f liar k j (packets n j k' (Each (Ask z.reader.round))) [] (λ w _ h. ask_each w j k' z.reader.round (λ _ same. (h.reader.now busy same).live)) tt tt at, λ _. tt)
         go tick_idle = (at, λ _. tt)
 
     pub reader_follows : {z : Seen} (from to k' : ℕ) (m : Message) → to ≡ j → liar j ≡ false → SoundReader n f z.reader → Memᴰ (record { from = from; to = to; note = k'; message = m }) z.bag → Followed n f liar k j z → Readered z (reader_on n f z.reader from k' m)
@@ -282,7 +282,7 @@ module _ (n f : ℕ) (liar : ℕ → Bool) (k j : ℕ) where
         go : {o : steps.Step Reader ReaderDone} → TickCase n f q o → Beside j' z o
         go (tick_opens busy full) = sending (Retried j' q.note ∷ []) q.note q.next (record { begun = refl; ended = refl; took = λ i. refl }, tt) (record { asks = refl; retries = ne_eqb j j' apart; by = ne_eqb j j' apart }, tt)
         go tick_refused = at
-        go (tick_asks busy) = sending [] q.note q.round tt tt
+        go (tick_again busy) = sending [] q.note q.round tt tt
         go tick_idle = at
 
     pub reader_beside : (q : Reader) (from k' : ℕ) (m : Message) → Beside j' z (reader_on n f q from k' m)

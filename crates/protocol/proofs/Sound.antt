@@ -10,7 +10,7 @@ use Rattle.protocol.specs.Message.{Message}
 use Rattle.protocol.specs.Step.{Step, quiet}
 use Rattle.protocol.specs.Office.{OfficeDone, no_writing, Desk, write_on, resend, office_tick, office_on}
 use Rattle.protocol.specs.Reader.{ReaderDone, Reader, in_round, more_rounds, asked, read_on, decided, reader_tick, hear, over, reader_on}
-use Rattle.protocol.proofs.PartyCases.{WriteCase, write_begins, write_refused, write_case, OfficeCase, took_counts, took_ends, office_passes, office_case, RoundCase, round_opens, round_refused, round_case, TickCase, tick_opens, tick_refused, tick_asks, tick_idle, tick_case, DecideCase, decide_reads, decide_waits, decide_doubts, decide_case, ReaderCase, told_counts, told_decides, reader_passes, reader_case}
+use Rattle.protocol.proofs.PartyCases.{WriteCase, write_begins, write_refused, write_case, OfficeCase, took_counts, took_ends, office_passes, office_case, RoundCase, round_opens, round_refused, round_case, TickCase, tick_opens, tick_refused, tick_again, tick_idle, tick_case, DecideCase, decide_reads, decide_waits, decide_doubts, decide_case, ReaderCase, told_counts, told_decides, reader_passes, reader_case}
 
 -- a writing under way waits for more wardens
 abbrev pub SoundDesk : (n f : ℕ) → Desk → Type 0
@@ -67,7 +67,7 @@ module _ (n f : ℕ) (some : f < n) where
       go : {o : Step Reader ReaderDone} → TickCase n f q o → SoundReader n f o.next
       go (tick_opens busy full) = sound_round q.note (q.left - 1) q
       go tick_refused = h
-      go (tick_asks busy) = h
+      go (tick_again busy) = h
       go tick_idle = h
 
   sound_decide : (q : Reader) → (q.busy ≡ true → q.round < q.next) → {c : Reading} {o : Step Reader ReaderDone} → DecideCase q c o → pick n f q.replies n ≡ c → SoundReader n f o.next

@@ -1,16 +1,15 @@
 -- The writings under way are those of the notes that are being written.
 -- Assumes nothing.
-use Rattle.std.proofs.Common.{◌≡◌, ℕ, true, false, not, ◌&&◌, ◌||◌, eqb, ltb, leb, List, [], ◌∷◌, ◌++◌, sym, refl, ◌∙◌, ⊎_elim}
+use Rattle.std.proofs.Common.{◌≡◌, ℕ, true, false, eqb, List, [], ◌∷◌, ◌++◌, sym, refl, ◌∙◌, ⊎_elim}
 use mathlib.Core.List.Memᴰ
 use mathlib.Core.List.{Memᴰ}
 use borrow.Author.Tests.{clash}
-use Rattle.std.proofs.lemmas.Bool.{cond_both, and_parts, eq-eqb, eqb-true}
-use Rattle.register.specs.Count.{count}
-use Rattle.register.specs.Rule.{quorum}
+use Rattle.std.proofs.lemmas.Bool.{cond_both, eq-eqb, eqb-true}
 use Rattle.register.proofs.Put.{put_at, put_all}
-use Rattle.protocol.specs.Message.{Message, Take, Took, Ask, Told}
-use Rattle.protocol.specs.Step.{Step, Refused, quiet, refuse}
-use Rattle.protocol.specs.Office.{OfficeDone, counted, ended, Desk, last_edition, begin_writing, acknowledge, close, settle, awaits_took, took_on}
+use Rattle.protocol.specs.Message.{Message}
+use Rattle.protocol.specs.Step.{Step, Refused}
+use Rattle.protocol.specs.Office.{OfficeDone, Desk, begin_writing, acknowledge, close}
+use Rattle.protocol.proofs.PartyCases.{WriteCase, write_begins, write_refused, write_case, OfficeCase, took_counts, took_ends, office_passes, office_case}
 use Rattle.protocol_tables.specs.Keep.{room, store}
 use Rattle.protocol_tables.specs.Office.{Office, OfficeStep, empty_office, leave, without, keep_writing, office_writes, keep_counting, office_hears}
 
@@ -70,31 +69,17 @@ started o k v =
     record { next = record { desks = store k s.next o.desks; under_way = o.under_way ++ (k ∷ []) }; letters = record { note = k; sends = s.sends } ∷ []; outcome = s.outcome }
 
 module _ (o : Office) (h : Ordered o) (k : ℕ) where
-  abbrev Keeps : OfficeStep → Type 0
-  Keeps s = Ordered s.next
-
   pub write_ordered : (v : List ℕ) → Ordered (office_writes o k v).next
-  write_ordered v =
-      cond_both ((o.desks.at k).busy || leb last_edition (o.desks.at k).now.edition) (refuse (o.desks.at k) 5) (begin_writing (o.desks.at k) v) (λ (s : Step Desk OfficeDone). Ordered (keep_writing o k s).next)
-      (λ _. h)
-      (λ _. cond_both (room k o.desks) (started o k v) (leave o (Refused 6)) Keeps (λ _. begun_ordered h k (begin_writing (o.desks.at k) v).next refl) (λ _. h))
+  write_ordered v = go (write_case (o.desks.at k) v)
+    where
+      go : {st : Step Desk OfficeDone} → WriteCase (o.desks.at k) v st → Ordered (keep_writing o k st).next
+      go (write_begins idle low) = cond_both (room k o.desks) (started o k v) (leave o (Refused 6)) (λ (s : OfficeStep). Ordered s.next) (λ _. begun_ordered h k (begin_writing (o.desks.at k) v).next refl) (λ _. h)
+      go write_refused = h
 
   pub hear_ordered : (n f from : ℕ) (m : Message) → Ordered (office_hears n f o from k m).next
-  hear_ordered n f from (Take x) = h
-  hear_ordered n f from (Took e) =
-      cond_both (ltb from n) (took_on n f d from e) (refuse d 1) After
-      (λ _. cond_both (awaits_took from e d) (settle n f (acknowledge from d)) (refuse d 4) After
-      (λ so. let (busy, _) = and_parts d.busy (eqb e d.now.edition && not (d.acks from)) so in
-      cond_both (quorum n f (count n (acknowledge from d).acks)) (quiet (close (acknowledge from d)) ended) (quiet (acknowledge from d) counted) After
-      (λ _. ended_ordered h k (close (acknowledge from d)) refl)
-      (λ _. counted_ordered h k (acknowledge from d) busy busy))
-      (λ _. h))
-      (λ _. h)
+  hear_ordered n f from m = go (office_case n f (o.desks.at k) from m)
     where
-      d : Desk
-      d = o.desks.at k
-
-      After : Step Desk OfficeDone → Type 0
-      After s = Ordered (keep_counting o k s).next
-  hear_ordered n f from (Ask r) = h
-  hear_ordered n f from (Told r x) = h
+      go : {m : Message} {st : Step Desk OfficeDone} → OfficeCase n f (o.desks.at k) from m st → Ordered (keep_counting o k st).next
+      go (took_counts below on short) = counted_ordered h k (acknowledge from (o.desks.at k)) on on
+      go (took_ends below on all) = ended_ordered h k (close (acknowledge from (o.desks.at k))) refl
+      go (office_passes e) = h

@@ -1,22 +1,23 @@
 -- A warden has no notes but those that the office has, so it always has room.
 -- Assumes nothing.
-use Rattle.std.proofs.Common.{◌≡◌, ℕ, ◌-◌, ◌≤◌, Bool, true, false, cond, not, ◌&&◌, ◌||◌, eqb, ltb, leb, ◌⊎◌, List, [], ◌∷◌, ◌++◌, map, sym, refl, ap, ◌∙◌, inl, inr, ⊎_elim, arith}
+use Rattle.std.proofs.Common.{◌≡◌, ℕ, ◌≤◌, Bool, true, false, cond, ◌⊎◌, List, [], ◌∷◌, ◌++◌, map, sym, refl, ap, ◌∙◌, inl, inr, ⊎_elim, arith}
 use mathlib.Core.List.Memᴰ
 use mathlib.Core.List.{Memᴰ}
 use borrow.Author.Tests.{clash}
-use Rattle.std.proofs.lemmas.Bool.{cond_both, and_parts, cases_Bool, eq-eqb, eqb-true, lt-ltb}
-use Rattle.register.specs.Count.{count, put}
+use Rattle.std.proofs.lemmas.Bool.{cond_both, cases_Bool, eq-eqb, lt-ltb}
+use Rattle.register.specs.Count.{put}
 use Rattle.register.specs.Note.{Note, none}
-use Rattle.register.specs.Rule.{quorum, Reading, Found, Nothing, pick}
+use Rattle.register.specs.Rule.{Reading, pick}
 use Rattle.register.proofs.Put.{put_all, put_both, put_stay}
 use Rattle.protocol.specs.Message.{office, Message, Take, Took, Ask, Told, Packet, Sends, One, Each, packets}
 use Rattle.protocol.specs.Message as words
-use Rattle.protocol.specs.Step.{Step, Done, Refused, quiet, refuse}
-use Rattle.protocol.specs.Warden.{WardenDone, taken, take_on}
-use Rattle.protocol.specs.Office.{OfficeDone, counted, ended, Desk, empty_desk, last_edition, begin_writing, acknowledge, close, settle, awaits_took, took_on, office_on}
-use Rattle.protocol.specs.Reader.{ReaderDone, asked, retried, no_reading, heard, undecided, unsure, Reader, more_rounds, used_up, in_round, begin_round, read_on, decided, ask_again, reader_tick, awaits_told, hear, over, decide, settle_round, told_on, reader_on}
+use Rattle.protocol.specs.Step.{Step, Done, Refused, refuse}
+use Rattle.protocol.specs.Warden.{WardenDone, taken}
+use Rattle.protocol.specs.Office.{OfficeDone, Desk, empty_desk, begin_writing, acknowledge, close, office_on}
+use Rattle.protocol.specs.Reader.{ReaderDone, asked, Reader, more_rounds, begin_round, read_on, reader_tick, hear, reader_on}
 use Rattle.protocol.specs.Log as L
 use Rattle.protocol.proofs.Packets.{of_each}
+use Rattle.protocol.proofs.PartyCases.{WardenCase, warden_takes, warden_had, warden_answers, warden_passes, warden_case, WriteCase, write_begins, write_refused, write_case, OfficeCase, took_counts, took_ends, office_passes, office_case, RoundCase, round_opens, round_refused, round_case, TickCase, tick_opens, tick_refused, tick_again, tick_idle, tick_case, DecideCase, decide_reads, decide_waits, decide_doubts, decide_case, ReaderCase, told_counts, told_decides, reader_passes, reader_case}
 use Rattle.protocol_tables.specs.Keep.{most, Keep, empty, room, store}
 use Rattle.protocol_tables.specs.Warden.{keep_note, warden_keeps}
 use Rattle.protocol_tables.specs.Office.{Office, Letter, OfficeStep, post, leave, without, counts, ends, keep_writing, office_writes, keep_counting, office_hears, again, office_ticks}
@@ -53,34 +54,25 @@ storing {o} h k d ks roomy =
     }
 
 pub write_goes : {o : Office} → OfficeFits o → (k : ℕ) (v : List ℕ) → OfficeGoes o (office_writes o k v).next
-write_goes {o} h k v =
-    cond_both (d.busy || leb last_edition d.now.edition) (refuse d 5) (begin_writing d v) (λ (s : Step Desk OfficeDone). OfficeGoes o (keep_writing o k s).next)
-    (λ _. stays h)
-    (λ _. cond_both (room k o.desks) (started o k v) (leave o (Refused 6)) (λ (s : OfficeStep). OfficeGoes o s.next) (λ roomy. storing h k (begin_writing d v).next (o.under_way ++ (k ∷ [])) roomy) (λ _. stays h))
+write_goes {o} h k v = go (write_case d v)
   where
     d : Desk
     d = o.desks.at k
+
+    go : {st : Step Desk OfficeDone} → WriteCase d v st → OfficeGoes o (keep_writing o k st).next
+    go (write_begins idle low) = cond_both (room k o.desks) (started o k v) (leave o (Refused 6)) (λ (s : OfficeStep). OfficeGoes o s.next) (λ roomy. storing h k (begin_writing d v).next (o.under_way ++ (k ∷ [])) roomy) (λ _. stays h)
+    go write_refused = stays h
 
 pub hear_goes : {o : Office} → OfficeFits o → (n f from k : ℕ) (m : Message) → OfficeGoes o (office_hears n f o from k m).next
-hear_goes h n f from k (Take x) = stays h
-hear_goes {o} h n f from k (Took e) =
-    cond_both (ltb from n) (took_on n f d from e) (refuse d 1) After
-    (λ _. cond_both (awaits_took from e d) (settle n f (acknowledge from d)) (refuse d 4) After
-    (λ so. let (busy, _) = and_parts d.busy (eqb e d.now.edition && not (d.acks from)) so in
-    let roomy : room k o.desks ≡ true = rw (h.busy k busy) in
-    cond_both (quorum n f (count n (acknowledge from d).acks)) (quiet (close (acknowledge from d)) ended) (quiet (acknowledge from d) counted) After
-    (λ _. storing h k (close (acknowledge from d)) (keep_counting o k (quiet (close (acknowledge from d)) ended)).next.under_way roomy)
-    (λ _. storing h k (acknowledge from d) o.under_way roomy))
-    (λ _. stays h))
-    (λ _. stays h)
+hear_goes {o} h n f from k m = go (office_case n f d from m)
   where
     d : Desk
     d = o.desks.at k
 
-    After : Step Desk OfficeDone → Type 0
-    After s = OfficeGoes o (keep_counting o k s).next
-hear_goes h n f from k (Ask r) = stays h
-hear_goes h n f from k (Told r x) = stays h
+    go : {m : Message} {st : Step Desk OfficeDone} → OfficeCase n f d from m st → OfficeGoes o (keep_counting o k st).next
+    go (took_counts below on short) = storing h k (acknowledge from d) o.under_way (rw (h.busy k on))
+    go (took_ends below on all) = storing h k (close (acknowledge from d)) (without k o.under_way) (rw (h.busy k on))
+    go (office_passes e) = stays h
 
 -- WHAT IS SENT
 -- it asks to take a note
@@ -102,21 +94,13 @@ plain_sends n from k (One to x) so p m e = clash (sym so ∙ (rw (Memᴰ.eq_of_s
 plain_sends n from k (Each x) so p m e = let (i, l, is) = of_each n (λ i. record { from = from; to = i; note = k; message = x }) p m in clash (sym so ∙ (rw is at e))
 
 pub warden_plain : (d : Keep Note) (from k : ℕ) (m : Message) → Plain (warden_keeps d from k m).sends
-warden_plain d from k (Take x) =
-    cond_both (eqb from office) (take_on y x) (refuse y 1) After
-    (λ _. cond_both (ltb y.edition x.edition) (record { next = x; sends = One office (Took x.edition); outcome = Done taken }) (record { next = y; sends = One office (Took x.edition); outcome = Refused 2 }) After
-    (λ _. cond_both (room k d) (record { next = store k x d; sends = One office (Took x.edition); outcome = Done taken }) (refuse d 6) (λ (o : Step (Keep Note) WardenDone). Plain o.sends) (λ _. refl) (λ _. tt))
-    (λ _. refl))
-    (λ _. tt)
+warden_plain d from k m = go (warden_case (d.at k) from m)
   where
-    y : Note
-    y = d.at k
-
-    After : Step Note WardenDone → Type 0
-    After o = Plain (keep_note d k o).sends
-warden_plain d from k (Took e) = tt
-warden_plain d from k (Ask r) = refl
-warden_plain d from k (Told r x) = tt
+    go : {m : Message} {o : Step Note WardenDone} → WardenCase (d.at k) from m o → Plain (keep_note d k o).sends
+    go (warden_takes x own late) = cond_both (room k d) (record { next = store k x d; sends = One office (Took x.edition); outcome = Done taken }) (refuse d 6) (λ (o : Step (Keep Note) WardenDone). Plain o.sends) (λ _. refl) (λ _. tt)
+    go (warden_had x own early) = refl
+    go (warden_answers r) = refl
+    go warden_passes = tt
 
 -- a reader sends nothing, or asks each warden
 abbrev pub Asks : Sends → Type 0
@@ -129,32 +113,34 @@ asks_plain words.Nothing so = tt
 asks_plain (One to m) so = absurd so
 asks_plain (Each m) (r, is) = rw is
 
-abbrev ReaderAsks : Step Reader ReaderDone → Type 0
-ReaderAsks o = Asks o.sends
-
 pub round_asks : (k left : ℕ) (how : ReaderDone) (q : Reader) → Asks (begin_round k left how q).sends
-round_asks k left how q = cond_both (used_up q) (refuse q 5) (record { next = in_round k left q; sends = Each (Ask q.next); outcome = Done how }) ReaderAsks (λ _. tt) (λ _. (q.next, refl))
+round_asks k left how q = go (round_case k left how q)
+  where
+    go : {o : Step Reader ReaderDone} → RoundCase k left how q o → Asks o.sends
+    go round_opens = (q.next, refl)
+    go round_refused = tt
 
 pub tick_asks : (n f : ℕ) (q : Reader) → Asks (reader_tick n f q).sends
-tick_asks n f q =
-    cond_both q.busy (cond (decided n f q) (begin_round q.note (q.left - 1) retried q) (ask_again q)) (quiet q no_reading) ReaderAsks
-    (λ _. cond_both (decided n f q) (begin_round q.note (q.left - 1) retried q) (ask_again q) ReaderAsks (λ _. round_asks q.note (q.left - 1) retried q) (λ _. (q.round, refl)))
-    (λ _. tt)
+tick_asks n f q = go (tick_case n f q)
+  where
+    go : {o : Step Reader ReaderDone} → TickCase n f q o → Asks o.sends
+    go (tick_opens busy full) = (q.next, refl)
+    go tick_refused = tt
+    go (tick_again busy) = (q.round, refl)
+    go tick_idle = tt
 
-decide_asks : (q : Reader) (c : Reading) → Asks (decide q c).sends
-decide_asks q (Found x) = tt
-decide_asks q Nothing = cond_both (ltb 0 q.left) (quiet q undecided) (quiet (over q) unsure) ReaderAsks (λ _. tt) (λ _. tt)
+decide_asks : {q : Reader} {c : Reading} {o : Step Reader ReaderDone} → DecideCase q c o → Asks o.sends
+decide_asks (decide_reads x) = tt
+decide_asks (decide_waits more) = tt
+decide_asks (decide_doubts last) = tt
 
 pub reader_asks : (n f : ℕ) (q : Reader) (from k : ℕ) (m : Message) → Asks (reader_on n f q from k m).sends
-reader_asks n f q from k (Take x) = tt
-reader_asks n f q from k (Took e) = tt
-reader_asks n f q from k (Ask r) = tt
-reader_asks n f q from k (Told r x) =
-    cond_both (ltb from n) (told_on n f q from k r x) (refuse q 1) ReaderAsks
-    (λ _. cond_both (awaits_told n f from k r q) (settle_round n f (hear from x q)) (refuse q 3) ReaderAsks
-    (λ _. cond_both (decided n f (hear from x q)) (decide (hear from x q) (pick n f (hear from x q).replies n)) (quiet (hear from x q) heard) ReaderAsks (λ _. decide_asks (hear from x q) (pick n f (hear from x q).replies n)) (λ _. tt))
-    (λ _. tt))
-    (λ _. tt)
+reader_asks n f q from k m = go (reader_case n f q from k m)
+  where
+    go : {m : Message} {o : Step Reader ReaderDone} → ReaderCase n f q from k m o → Asks o.sends
+    go (told_counts r x below due short) = tt
+    go (told_decides r x below due full) = decide_asks (decide_case (hear from x q) (pick n f (hear from x q).replies n))
+    go (reader_passes e) = tt
 
 round_plain : (k left : ℕ) (how : ReaderDone) (q : Reader) → Plain (begin_round k left how q).sends
 round_plain k left how q = asks_plain (begin_round k left how q).sends (round_asks k left how q)
@@ -210,48 +196,42 @@ warden_fits {s} i d ps log count_of within plain h =
     }
 
 -- what a warden has after a message: what it had, and the note that it took, which the office has
-keeps : (s : System) (i from k : ℕ) (m : Message) → Fits s → (brings m ≡ true → from ≡ office → s.office.desks.had k ≡ true) → (λ (d : Keep Note). Counted d × ((k : ℕ) → d.had k ≡ true → s.office.desks.had k ≡ true)) (warden_keeps (s.warden i) from k m).next
-keeps s i from k (Take x) h known =
-    cond_both (eqb from office) (take_on y x) (refuse y 1) After
-    (λ sent. cond_both (ltb y.edition x.edition) (record { next = x; sends = One office (Took x.edition); outcome = Done taken }) (record { next = y; sends = One office (Took x.edition); outcome = Refused 2 }) After
-    (λ _. cond_both (room k d) (record { next = store k x d; sends = One office (Took x.edition); outcome = Done taken }) (refuse d 6) (λ (o : Step (Keep Note) WardenDone). Had o.next) (λ _. more (eqb-true from office sent)) (λ _. same))
-    (λ _. same))
-    (λ _. same)
+abbrev Had : System → Keep Note → Type 0
+Had s d = Counted d × ((k : ℕ) → d.had k ≡ true → s.office.desks.had k ≡ true)
+
+keeps : (s : System) (i from k : ℕ) (m : Message) → Fits s → (brings m ≡ true → from ≡ office → s.office.desks.had k ≡ true) → Had s (warden_keeps (s.warden i) from k m).next
+keeps s i from k m h = go (warden_case (d.at k) from m)
   where
     d : Keep Note
     d = s.warden i
 
-    y : Note
-    y = d.at k
-
-    Had : Keep Note → Type 0
-    Had d = Counted d × ((k : ℕ) → d.had k ≡ true → s.office.desks.had k ≡ true)
-
-    After : Step Note WardenDone → Type 0
-    After o = Had (keep_note d k o).next
-
-    same : Had d
+    same : Had s d
     same = (h.notes i, h.within i)
 
-    more : from ≡ office → Had (store k x d)
-    more sent = (store_counted (h.notes i) k x, put_all (λ z b. b ≡ true → s.office.desks.had z ≡ true) k true d.had (λ _. known refl sent) (h.within i))
-keeps s i from k (Took e) h known = (h.notes i, h.within i)
-keeps s i from k (Ask r) h known = (h.notes i, h.within i)
-keeps s i from k (Told r x) h known = (h.notes i, h.within i)
+    go : {m : Message} {o : Step Note WardenDone} → WardenCase (d.at k) from m o → (brings m ≡ true → from ≡ office → s.office.desks.had k ≡ true) → Had s (keep_note d k o).next
+    go (warden_takes x own late) known =
+        cond_both (room k d) (record { next = store k x d; sends = One office (Took x.edition); outcome = Done taken }) (refuse d 6) (λ (o : Step (Keep Note) WardenDone). Had s o.next)
+        (λ _. (store_counted (h.notes i) k x, put_all (λ z b. b ≡ true → s.office.desks.had z ≡ true) k true d.had (λ _. known refl own) (h.within i)))
+        (λ _. same)
+    go (warden_had x own early) known = same
+    go (warden_answers r) known = same
+    go warden_passes known = same
 
 written_had : (s : System) (n k : ℕ) (v : List ℕ) → (l : Letter) → Memᴰ l (office_writes s.office k v).letters → (p : Packet) → Memᴰ p (packets n office l.note l.sends) → (office_writes s.office k v).next.desks.had p.note ≡ true
-written_had s n k v =
-    cond_both (d.busy || leb last_edition d.now.edition) (refuse d 5) (begin_writing d v) (λ (st : Step Desk OfficeDone). Had (keep_writing s.office k st))
-    (λ _ l m. absurd (Memᴰ.not-nil m))
-    (λ _. cond_both (room k s.office.desks) (started s.office k v) (leave s.office (Refused 6)) Had
-    (λ _ l m p at. rw (eq-eqb p.note k (note_of_packet n k (Take (begin_writing d v).next.now) p (rw (Memᴰ.eq_of_singleton m) at at))))
-    (λ _ l m. absurd (Memᴰ.not-nil m)))
+written_had s n k v = go (write_case d v)
   where
     d : Desk
     d = s.office.desks.at k
 
-    Had : OfficeStep → Type 0
-    Had o = (l : Letter) → Memᴰ l o.letters → (p : Packet) → Memᴰ p (packets n office l.note l.sends) → o.next.desks.had p.note ≡ true
+    Has : OfficeStep → Type 0
+    Has o = (l : Letter) → Memᴰ l o.letters → (p : Packet) → Memᴰ p (packets n office l.note l.sends) → o.next.desks.had p.note ≡ true
+
+    go : {st : Step Desk OfficeDone} → WriteCase d v st → Has (keep_writing s.office k st)
+    go (write_begins idle low) =
+        cond_both (room k s.office.desks) (started s.office k v) (leave s.office (Refused 6)) Has
+        (λ _ l m p at. rw (eq-eqb p.note k (note_of_packet n k (Take (begin_writing d v).next.now) p (rw (Memᴰ.eq_of_singleton m) at at))))
+        (λ _ l m. absurd (Memᴰ.not-nil m))
+    go write_refused = λ l m. absurd (Memᴰ.not-nil m)
 
 -- when something comes to the office, it sends nothing
 pub no_letters : (o : Office) (k : ℕ) (st : Step Desk OfficeDone) → (keep_counting o k st).letters ≡ []
@@ -306,26 +286,16 @@ roomy s i k h has =
     (cases_Bool ((s.warden i).had k))
 
 pub never_full : NeverFull
-never_full n f liar s run i p m = go p.from p.note p.message (h.posted p m)
+never_full n f liar s run i p m = go (warden_case ((s.warden i).at p.note) p.from p.message) (h.posted p m)
   where
     h : Fits s
     h = run_fits n f liar run
 
-    go : (from k : ℕ) (m : Message) → (brings m ≡ true → from ≡ office → s.office.desks.had k ≡ true) → (warden_keeps (s.warden i) from k m).outcome ≡ Refused 6 → ⊥
-    go from k (Take x) known =
-        cond_both (eqb from office) (take_on y x) (refuse y 1) After
-        (λ sent. cond_both (ltb y.edition x.edition) (record { next = x; sends = One office (Took x.edition); outcome = Done taken }) (record { next = y; sends = One office (Took x.edition); outcome = Refused 2 }) After
-        (λ _. cond_both (room k (s.warden i)) (record { next = store k x (s.warden i); sends = One office (Took x.edition); outcome = Done taken }) (refuse (s.warden i) 6) (λ (o : Step (Keep Note) WardenDone). o.outcome ≡ Refused 6 → ⊥)
+    go : {m : Message} {o : Step Note WardenDone} → WardenCase ((s.warden i).at p.note) p.from m o → (brings m ≡ true → p.from ≡ office → s.office.desks.had p.note ≡ true) → (keep_note (s.warden i) p.note o).outcome ≡ Refused 6 → ⊥
+    go (warden_takes x own late) known =
+        cond_both (room p.note (s.warden i)) (record { next = store p.note x (s.warden i); sends = One office (Took x.edition); outcome = Done taken }) (refuse (s.warden i) 6) (λ (o : Step (Keep Note) WardenDone). o.outcome ≡ Refused 6 → ⊥)
         (λ _ e. cc)
-        (λ full _. clash (sym full ∙ roomy s i k h (known refl (eqb-true from office sent)))))
-        (λ _ e. cc))
-        (λ _ e. cc)
-      where
-        y : Note
-        y = (s.warden i).at k
-
-        After : Step Note WardenDone → Type 0
-        After o = (keep_note (s.warden i) k o).outcome ≡ Refused 6 → ⊥
-    go from k (Took e) known = λ e. cc
-    go from k (Ask r) known = λ e. cc
-    go from k (Told r x) known = λ e. cc
+        (λ full _. clash (sym full ∙ roomy s i p.note h (known refl own)))
+    go (warden_had x own early) known = λ e. cc
+    go (warden_answers r) known = λ e. cc
+    go warden_passes known = λ e. cc
