@@ -17,6 +17,7 @@ use Rattle.protocol.specs.Log.{Event, Log, Lost, held, took}
 use Rattle.protocol.specs.Log as events
 use Rattle.protocol.specs.System.{warden_event, reader_event}
 use Rattle.protocol.proofs.Packets.{of_each}
+use Rattle.protocol.proofs.PartyCases.{OfficeCase, took_counts, took_ends, office_passes, office_case}
 use Rattle.protocol_tables.specs.Keep.{Keep, empty, store}
 use Rattle.protocol_tables.specs.Office.{OfficeStep, Letter, post, keep_counting, again, office_ticks}
 use Rattle.protocol_tables.specs.System.{System, by_office, by_warden, by_reader, Move, writes, office_tick, office_hear, warden_hear, reads, reader_ticks, reader_hears, office_restarts, reader_restarts, lies, loses, Run, begin, then}
@@ -24,7 +25,7 @@ use Rattle.protocol_tables.proofs.Room.{Asks, round_asks, tick_asks, reader_asks
 use Rattle.protocol_tables.proofs.Within.{Within}
 use Rattle.protocol_files.proofs.Takes as T
 use Rattle.protocol_files.proofs.WardenRuns.{seen_by}
-use Rattle.protocol_files.proofs.OfficeSteps.{Written, begins_it, refuses, written, Counted, passes, counts_it, ends_it, counted_by}
+use Rattle.protocol_files.proofs.OfficeSteps.{Written, begins_it, refuses, written}
 
 -- WHAT THE LOG SAYS
 reader_held : (i k j : ℕ) (q : Reader) (out : Outcome ReaderDone) (l : Log) → held i k (reader_event j q out ++ l) ≡ held i k l
@@ -129,10 +130,10 @@ module _ (n f : ℕ) (liar : ℕ → Bool) where
       x = (begin_writing (s.office.desks.at k) v).next.now
   written_honest s k v (refuses m) h = record { holding = h.holding; told = h.told }
 
-  counted_honest : (s : System) (k from : ℕ) {st : Step Desk OfficeDone} → Counted (s.office.desks.at k) from st → Honest n liar s → Honest n liar (by_office n k (keep_counting s.office k st) s)
-  counted_honest s k from (passes e) h = record { holding = h.holding; told = h.told }
-  counted_honest s k from (counts_it busy) h = record { holding = h.holding; told = h.told }
-  counted_honest s k from (ends_it busy) h = record { holding = λ i c. omega (arith, h.holding i c); told = told_more n liar [] (λ p r x at. absurd (Memᴰ.not-nil at)) (λ e at. Memᴰ.tail at) h.told }
+  counted_honest : (s : System) (k from : ℕ) {m : Message} {st : Step Desk OfficeDone} → OfficeCase n f (s.office.desks.at k) from m st → Honest n liar s → Honest n liar (by_office n k (keep_counting s.office k st) s)
+  counted_honest s k from (office_passes e) h = record { holding = h.holding; told = h.told }
+  counted_honest s k from (took_counts below busy short) h = record { holding = h.holding; told = h.told }
+  counted_honest s k from (took_ends below busy all) h = record { holding = λ i c. omega (arith, h.holding i c); told = told_more n liar [] (λ p r x at. absurd (Memᴰ.not-nil at)) (λ e at. Memᴰ.tail at) h.told }
 
   ticks_told : (s : System) → Honest n liar s → ToldRight n liar (post n (office_ticks s.office).letters s.bag) s.log
   ticks_told s h p r x at below own is = ⊎_elim (λ at. h.told p r x at below own is) (λ from_letter. absurd (again_tells from_letter)) (of_post n (office_ticks s.office).letters s.bag p at)
@@ -174,7 +175,7 @@ module _ (n f : ℕ) (liar : ℕ → Bool) where
   honest_by : {s t : System} → Move n f liar s t → Honest n liar s → Honest n liar t
   honest_by {s} (writes k v) h = written_honest s k v (written s.office k v) h
   honest_by {s} office_tick h = record { holding = h.holding; told = ticks_told s h }
-  honest_by {s} (office_hear p m to) h = counted_honest s p.note p.from (counted_by n f (s.office.desks.at p.note) p.from p.message) h
+  honest_by {s} (office_hear p m to) h = counted_honest s p.note p.from (office_case n f (s.office.desks.at p.note) p.from p.message) h
   honest_by {s} (warden_hear i p l own m to) h = warden_honest s i p.from p.note p.message (T.heard (s.warden i) p.from p.note p.message) h
   honest_by {s} (reads j k own) h = reader_honest s j (read_on (s.reader j) k) (round_asks k more_rounds asked (s.reader j)) h
   honest_by {s} (reader_ticks j own) h = reader_honest s j (reader_tick n f (s.reader j)) (tick_asks n f (s.reader j)) h

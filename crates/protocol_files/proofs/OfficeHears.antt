@@ -6,10 +6,11 @@ use borrow.Author.Tests.{clash}
 use Rattle.std.proofs.lemmas.Bool.{both_ways, cases_Bool, false_from_ne_true, cond-true, cond-false, ne_eqb}
 use Rattle.register.specs.Note.{Note}
 use Rattle.register.proofs.Put.{put_at, put_all, put_both, put_same}
-use Rattle.protocol.specs.Message.{office, Packet}
+use Rattle.protocol.specs.Message.{office, Message, Packet}
 use Rattle.protocol.specs.Step.{Step, quiet}
 use Rattle.protocol.specs.Office.{OfficeDone, counted, ended, Desk, acknowledge, close, office_on}
 use Rattle.protocol.specs.Log.{Ended, Log}
+use Rattle.protocol.proofs.PartyCases.{OfficeCase, took_counts, took_ends, office_passes, office_case}
 use Rattle.protocol_tables.specs.Keep.{Keep}
 use Rattle.protocol_tables.specs.Office.{Office, keep_counting, office_hears}
 use Rattle.protocol_tables.specs.System as tables
@@ -19,7 +20,7 @@ use Rattle.frames.specs.Format as frames
 use Rattle.frames.specs.Journal.{encode_all}
 use Rattle.protocol_files.specs.Disk.{append, sync}
 use Rattle.protocol_files.specs.System.{System, has_ended, ended_news, by_office, office_stops}
-use Rattle.protocol_files.proofs.OfficeSteps.{Counted, passes, counts_it, ends_it, counted_by, Like, like_stored, like_kept, closed}
+use Rattle.protocol_files.proofs.OfficeSteps.{Like, like_stored, like_kept, closed}
 use Rattle.protocol_files.proofs.OfficeFiles.{Stands, stands_more, Waits, idle, stops, OfficeUp, OfficeShows, ended_means, now_file}
 use Rattle.protocol_files.proofs.OfficeFiles as O
 use Rattle.protocol_files.proofs.OfficeStands.{stands_kept, stands_closed, ended_there, ended_so, news_fits}
@@ -170,10 +171,10 @@ module _ (n f : ℕ) (liar : ℕ → Bool) (least : 4 * f < n) (s : System) {o :
       office_changes n f liar s (record { disk = sync (append [] s.office.disk); up = s.office.up; memory = m }) o s.bag b s.log h h.run h.bag (λ p at. at) h.fits
       (as_it_is n f liar s o b s.log h.office up o m h.office.stands work.like work.order work.same)
 
-  pub hears_step : {st : Step Desk OfficeDone} → Counted d from st → Runs st → Ordered (keep_counting m k st).next → Followed n f liar (by_office n k (keep_counting m k st) s)
-  hears_step (passes e) runs order = passes_on
-  hears_step (counts_it on) runs order = counts_on on runs order
-  hears_step (ends_it on) runs order = ends_on on runs order
+  pub hears_step : {p : Message} {st : Step Desk OfficeDone} → OfficeCase n f d from p st → Runs st → Ordered (keep_counting m k st).next → Followed n f liar (by_office n k (keep_counting m k st) s)
+  hears_step (office_passes e) runs order = passes_on
+  hears_step (took_counts below on short) runs order = counts_on on runs order
+  hears_step (took_ends below on all) runs order = ends_on on runs order
 
   -- IT STOPS THERE
   nothing_pends : (j : ℕ) (left : Office) → Followed n f liar (record { office = record { disk = append (take j []) s.office.disk; up = false; memory = left }; warden = s.warden; reader = s.reader; bag = s.bag; log = s.log })
@@ -192,10 +193,10 @@ module _ (n f : ℕ) (liar : ℕ → Bool) (least : 4 * f < n) (s : System) {o :
       r : Over
       r = over on runs
 
-  pub stops_step : (j : ℕ) (left : Office) {st : Step Desk OfficeDone} → Counted d from st → Runs st → Followed n f liar (office_stops k (keep_counting m k st) j left s)
-  stops_step j left (passes e) runs = nothing_pends j left
-  stops_step j left (counts_it on) runs = nothing_pends j left
-  stops_step j left (ends_it on) runs = end_pends j left on runs
+  pub stops_step : (j : ℕ) (left : Office) {p : Message} {st : Step Desk OfficeDone} → OfficeCase n f d from p st → Runs st → Followed n f liar (office_stops k (keep_counting m k st) j left s)
+  stops_step j left (office_passes e) runs = nothing_pends j left
+  stops_step j left (took_counts below on short) runs = nothing_pends j left
+  stops_step j left (took_ends below on all) runs = end_pends j left on runs
 
 module _ (n f : ℕ) (liar : ℕ → Bool) (least : 4 * f < n) (s : System) (p : Packet) (up : s.office.up ≡ true) (at : Memᴰ p s.bag) (to : p.to ≡ office) where
   -- the same desk does the same
@@ -206,8 +207,8 @@ module _ (n f : ℕ) (liar : ℕ → Bool) (least : 4 * f < n) (s : System) (p :
 
   pub hears : Followed n f liar s → Followed n f liar (by_office n p.note (office_hears n f s.office.memory p.from p.note p.message) s)
   hears (o, w, b, h) =
-      hears_step n f liar least s h up p.note p.from (counted_by n f (s.office.memory.desks.at p.note) p.from p.message) (runs h) (hear_ordered s.office.memory (h.office.working up).order p.note n f p.from p.message)
+      hears_step n f liar least s h up p.note p.from (office_case n f (s.office.memory.desks.at p.note) p.from p.message) (runs h) (hear_ordered s.office.memory (h.office.working up).order p.note n f p.from p.message)
 
   pub hear_stops : (j : ℕ) (left : Office) → Followed n f liar s → Followed n f liar (office_stops p.note (office_hears n f s.office.memory p.from p.note p.message) j left s)
   hear_stops j left (o, w, b, h) =
-      stops_step n f liar least s h up p.note p.from j left (counted_by n f (s.office.memory.desks.at p.note) p.from p.message) (runs h)
+      stops_step n f liar least s h up p.note p.from j left (office_case n f (s.office.memory.desks.at p.note) p.from p.message) (runs h)

@@ -1,13 +1,12 @@
 -- What the office does when it is told to write and when a message comes, and which offices do the same.
 -- Assumes nothing.
-use Rattle.std.proofs.Common.{◌≡◌, ℕ, suc, true, false, not, ◌&&◌, ◌||◌, eqb, ltb, leb, List, [], ◌∷◌, ◌++◌, sym, refl, ap, ◌∙◌}
-use Rattle.std.proofs.lemmas.Bool.{cond_both, cond-true, or_parts, and_parts, eq-eqb}
-use Rattle.register.specs.Count.{count, put}
-use Rattle.register.specs.Rule.{quorum}
+use Rattle.std.proofs.Common.{◌≡◌, ℕ, suc, true, false, ◌&&◌, eqb, leb, List, [], ◌∷◌, ◌++◌, sym, refl, ap, ◌∙◌}
+use Rattle.std.proofs.lemmas.Bool.{cond_both, cond-true, eq-eqb}
+use Rattle.register.specs.Count.{put}
 use Rattle.register.proofs.Put.{put_all, put_both, put_idle}
-use Rattle.protocol.specs.Message.{Message, Take, Took, Ask, Told}
-use Rattle.protocol.specs.Step.{Step, Refused, quiet, refuse}
-use Rattle.protocol.specs.Office.{OfficeDone, counted, ended, Desk, last_edition, begin_writing, acknowledge, close, settle, awaits_took, took_on, office_on}
+use Rattle.protocol.specs.Step.{Step, Refused}
+use Rattle.protocol.specs.Office.{OfficeDone, Desk, last_edition, begin_writing, close}
+use Rattle.protocol.proofs.PartyCases.{WriteCase, write_begins, write_refused, write_case}
 use Rattle.protocol_tables.specs.Keep.{Keep, room, store}
 use Rattle.protocol_tables.specs.Office.{Office, OfficeStep, empty_office, leave, without, keep_writing, office_writes, close_writing}
 use Rattle.protocol_tables.proofs.Orders.{Ordered, empty_ordered, write_ordered, ended_ordered}
@@ -31,36 +30,16 @@ pub data Written (a : Office) (k : ℕ) (v : List ℕ) : OfficeStep → Type 0 w
   refuses : (m : ℕ) → Written a k v (leave a (Refused m))
 
 pub written : (a : Office) (k : ℕ) (v : List ℕ) → Written a k v (office_writes a k v)
-written a k v =
-    cond_both (d.busy || leb last_edition d.now.edition) (refuse d 5) (begin_writing d v) (λ (st : Step Desk OfficeDone). Written a k v (keep_writing a k st))
-    (λ _. refuses 5)
-    (λ free. let (idle, low) = or_parts d.busy (leb last_edition d.now.edition) free in
-    cond_both (room k a.desks) (begun_by a k (begin_writing d v)) (leave a (Refused 6)) (Written a k v) (λ roomy. begins_it (record { idle = idle; low = low; roomy = roomy })) (λ _. refuses 6))
+written a k v = go (write_case (a.desks.at k) v)
   where
-    d : Desk
-    d = a.desks.at k
+    go : {st : Step Desk OfficeDone} → WriteCase (a.desks.at k) v st → Written a k v (keep_writing a k st)
+    go (write_begins idle low) =
+        cond_both (room k a.desks) (begun_by a k (begin_writing (a.desks.at k) v)) (leave a (Refused 6)) (Written a k v) (λ roomy. begins_it (record { idle = idle; low = low; roomy = roomy })) (λ _. refuses 6)
+    go write_refused = refuses 5
 
 -- an office whose desk has the same note, and that is ready, begins by the same step
 pub ready_writes : (a : Office) (k : ℕ) (v : List ℕ) (d : Desk) → Ready a k → (a.desks.at k).now ≡ d.now → office_writes a k v ≡ begun_by a k (begin_writing d v)
 ready_writes a k v d h now = rw (h.idle, h.low, h.roomy, now)
-
--- A MESSAGE COMES
-pub data Counted (d : Desk) (from : ℕ) : Step Desk OfficeDone → Type 0 where
-  passes : (e : ℕ) → Counted d from (refuse d e)
-  counts_it : d.busy ≡ true → Counted d from (quiet (acknowledge from d) counted)
-  ends_it : d.busy ≡ true → Counted d from (quiet (close (acknowledge from d)) ended)
-
-pub counted_by : (n f : ℕ) (d : Desk) (from : ℕ) (m : Message) → Counted d from (office_on n f d from m)
-counted_by n f d from (Take x) = passes 1
-counted_by n f d from (Took e) =
-    cond_both (ltb from n) (took_on n f d from e) (refuse d 1) (Counted d from)
-    (λ _. cond_both (awaits_took from e d) (settle n f (acknowledge from d)) (refuse d 4) (Counted d from)
-    (λ so. let (busy, _) = and_parts d.busy (eqb e d.now.edition && not (d.acks from)) so in
-    cond_both (quorum n f (count n (acknowledge from d).acks)) (quiet (close (acknowledge from d)) ended) (quiet (acknowledge from d) counted) (Counted d from) (λ _. ends_it busy) (λ _. counts_it busy))
-    (λ _. passes 4))
-    (λ _. passes 1)
-counted_by n f d from (Ask r) = passes 1
-counted_by n f d from (Told r x) = passes 1
 
 -- OFFICES THAT ARE ALIKE, but for whom they have counted
 pub record DeskLike (d e : Desk) : Type 0 where

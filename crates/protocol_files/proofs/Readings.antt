@@ -1,18 +1,18 @@
 -- A reading that begins while all are at work, and the note is not being written, reads what was written last.
 -- Assumes nothing.
-use Rattle.std.proofs.Common.{◌≡◌, ℕ, suc, ◌+◌, ◌*◌, ◌<◌, ◌≤◌, Bool, true, false, ltb, List, [], ◌∷◌, ◌++◌, sym, refl, ap, ◌∙◌, subst, ⊎_elim, arith}
+use Rattle.std.proofs.Common.{◌≡◌, ℕ, suc, ◌+◌, ◌*◌, ◌<◌, ◌≤◌, Bool, true, false, List, [], ◌∷◌, ◌++◌, sym, refl, ap, ◌∙◌, subst, ⊎_elim, arith}
 use mathlib.Core.List.Memᴰ
 use mathlib.Core.List.{Memᴰ}
-use Rattle.std.proofs.lemmas.Bool.{both_ways, false_from_ne_true, cases_lt, cond_both, eq-eqb, lt-leb, ltb-false}
+use Rattle.std.proofs.lemmas.Bool.{both_ways, false_from_ne_true, cases_lt, eq-eqb, lt-leb}
 use Rattle.register.specs.Count.{count}
 use Rattle.register.specs.Note.{Note}
-use Rattle.register.specs.Rule.{silence, answers, Reading, Found, Nothing, pick}
+use Rattle.register.specs.Rule.{silence, answers, Reading, Nothing, pick}
 use Rattle.register.proofs.Counting.{either, nobody}
 use Rattle.register.proofs.Notes.{note_path}
 use Rattle.register.proofs.Put.{put_same}
 use Rattle.register.proofs.Keeps.{reach_kept}
-use Rattle.protocol.specs.Step.{Step, quiet}
-use Rattle.protocol.specs.Reader.{ReaderDone, asked, undecided, unsure, Reader, more_rounds, in_round, decided, over, decide}
+use Rattle.protocol.specs.Step.{Step}
+use Rattle.protocol.specs.Reader.{ReaderDone, asked, Reader, more_rounds, in_round, decided}
 use Rattle.protocol.specs.Log.{Event, Began, Ended, Asked, Read, Log, before_round, lapsed}
 use Rattle.protocol.specs.Promise.{RightRead, Few, Busy}
 use Rattle.protocol.specs.System.{reader_event}

@@ -3,16 +3,16 @@
 use Rattle.std.proofs.Common.{◌≡◌, ℕ, suc, ◌+◌, ◌-◌, ◌*◌, ◌<◌, ◌≤◌, Bool, true, false, cond, ltb, ◌⊎◌, [], ◌++◌, sym, refl, ap, ◌∙◌, subst, inl, inr, ⊎_elim, arith}
 use mathlib.Core.List.Memᴰ
 use mathlib.Core.List.{Memᴰ}
-use Rattle.std.proofs.lemmas.Bool.{cond_both, cond-true, cond-false, cases_Bool, lt-ltb, leb-true, leb-false, ltb-true, ltb-false}
+use Rattle.std.proofs.lemmas.Bool.{cond_both, cond-true, cond-false, cases_Bool, lt-ltb, leb-true, leb-false}
 use Rattle.register.specs.Count.{count}
 use Rattle.register.specs.Note.{Note}
-use Rattle.register.specs.Rule.{answers, Reading, Found, Nothing, pick}
+use Rattle.register.specs.Rule.{answers, Reading, pick}
 use Rattle.register.specs.Progress.{missing}
 use Rattle.register.proofs.Put.{put_same}
 use Rattle.register.proofs.Moves.{Nearer, descend, who, fall, enough}
 use Rattle.protocol.specs.Message.{Ask, Told, Packet}
 use Rattle.protocol.specs.Step.{Step, quiet, refuse}
-use Rattle.protocol.specs.Reader.{ReaderDone, retried, no_reading, heard, undecided, unsure, Reader, begin_round, decided, ask_again, awaits_told, hear, over, decide, settle_round, told_on}
+use Rattle.protocol.specs.Reader.{ReaderDone, retried, no_reading, heard, Reader, begin_round, decided, ask_again, awaits_told, hear, decide, settle_round, told_on}
 use Rattle.protocol.specs.Log.{Log}
 use Rattle.protocol.specs.System.{reader_event}
 use Rattle.protocol.proofs.Packets.{at_each}

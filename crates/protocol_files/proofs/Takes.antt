@@ -1,14 +1,15 @@
 -- Records that a warden takes, one after the other, each sent by the office.
 -- Assumes nothing.
-use Rattle.std.proofs.Common.{◌≡◌, ℕ, zero, suc, ◌<◌, true, false, eqb, ltb, ◌⊎◌, List, [], ◌∷◌, ◌++◌, take, refl, ap, ◌∙◌, inl, inr, ⊎_elim, arith}
+use Rattle.std.proofs.Common.{◌≡◌, ℕ, zero, suc, ◌<◌, true, false, ◌⊎◌, List, [], ◌∷◌, ◌++◌, take, refl, ap, ◌∙◌, inl, inr, ⊎_elim, arith}
 use mathlib.Core.List.{Memᴰ}
-use Rattle.std.proofs.lemmas.Bool.{cond_both, eqb-true, ltb-true}
+use Rattle.std.proofs.lemmas.Bool.{cond_both}
 use Rattle.register.specs.Note.{Note}
 use Rattle.register.proofs.Put.{put_at}
 use Rattle.protocol.specs.Message.{office, Message, Take, Took, Ask, Told, Packet, Sends, One, Each}
 use Rattle.protocol.specs.Message as words
 use Rattle.protocol.specs.Step.{Outcome, Done, Refused, Step, refuse}
-use Rattle.protocol.specs.Warden.{WardenDone, taken, answered, take_on}
+use Rattle.protocol.specs.Warden.{WardenDone, taken, answered}
+use Rattle.protocol.proofs.PartyCases.{WardenCase, warden_takes, warden_had, warden_answers, warden_passes, warden_case}
 use Rattle.protocol_tables.specs.Keep.{Keep, room, store}
 use Rattle.protocol_tables.specs.Warden.{takes, keep_note, warden_keeps}
 use Rattle.protocol_tables.proofs.Within.{Within}
@@ -35,21 +36,13 @@ pub data Heard (d : Keep Note) (from k : ℕ) : Message → Step (Keep Note) War
   other : {m : Message} (sends : Sends) (out : Outcome WardenDone) → takes out ≡ false → Tells d k sends → Heard d from k m (record { next = d; sends = sends; outcome = out })
 
 pub heard : (d : Keep Note) (from k : ℕ) (m : Message) → Heard d from k m (warden_keeps d from k m)
-heard d from k (Take x) =
-    cond_both (eqb from office) (take_on y x) (refuse y 1) After
-    (λ sent. cond_both (ltb y.edition x.edition) (record { next = x; sends = One office (Took x.edition); outcome = Done taken }) (record { next = y; sends = One office (Took x.edition); outcome = Refused 2 }) After
-    (λ late. cond_both (room k d) (took_step k x d) (refuse d 6) (Heard d from k (Take x)) (λ roomy. took x (eqb-true from office sent) (ltb-true y.edition x.edition late) roomy) (λ _. other words.Nothing (Refused 6) refl tt))
-    (λ _. other (One office (Took x.edition)) (Refused 2) refl (took_tells d k x.edition)))
-    (λ _. other words.Nothing (Refused 1) refl tt)
+heard d from k m = go (warden_case (d.at k) from m)
   where
-    y : Note
-    y = d.at k
-
-    After : Step Note WardenDone → Type 0
-    After o = Heard d from k (Take x) (keep_note d k o)
-heard d from k (Took e) = other words.Nothing (Refused 1) refl tt
-heard d from k (Ask r) = other (One from (Told r (d.at k))) (Done answered) refl (λ r' x is. cc)
-heard d from k (Told r x) = other words.Nothing (Refused 1) refl tt
+    go : {m : Message} {o : Step Note WardenDone} → WardenCase (d.at k) from m o → Heard d from k m (keep_note d k o)
+    go (warden_takes x own late) = cond_both (room k d) (took_step k x d) (refuse d 6) (Heard d from k (Take x)) (λ roomy. took x own late roomy) (λ _. other words.Nothing (Refused 6) refl tt)
+    go (warden_had x own early) = other (One office (Took x.edition)) (Refused 2) refl (took_tells d k x.edition)
+    go (warden_answers r) = other (One from (Told r (d.at k))) (Done answered) refl (λ r' x is. cc)
+    go warden_passes = other words.Nothing (Refused 1) refl tt
 
 -- f is what the office sent to i, and i takes it
 pub record Taking (i : ℕ) (bag : List Packet) (d : Keep Note) (f : Frame) : Type 0 where
