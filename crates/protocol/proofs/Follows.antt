@@ -147,13 +147,13 @@ module _ (n f : ℕ) (liar : ℕ → Bool) where
             start,
             M.begin,
             record {
-              desk = record { edition = refl; value = refl; idle = λ _. refl; busy = λ e. absurd (clash e); acks = λ i e. absurd (clash e); begun = λ e one below. absurd (omega arith); most = omega arith; some = λ e v m. absurd (Memᴰ.not-nil m); done = λ e one below. absurd (omega arith); ended = omega arith };
+              desk = record { edition = refl; value = refl; idle = λ _. refl; busy = λ e. cc; acks = λ i e. cc; begun = λ e one below. absurd (omega arith); most = omega arith; some = λ e v m. absurd (Memᴰ.not-nil m); done = λ e one below. absurd (omega arith); ended = omega arith };
               warden = λ i. record { store = refl; held = omega arith; high = refl };
-              reader = record { shut = λ r l. refl; now = λ e _. absurd (clash e); reads = λ e _. absurd (clash e); left = λ e _. absurd (clash e) };
+              reader = record { shut = λ r l. refl; now = λ e _. cc; reads = λ e _. cc; left = λ e _. cc };
               bag = λ p at. absurd (Memᴰ.not-nil at);
             },
           );
-          desks = λ k e. absurd (clash e);
+          desks = λ k e. cc;
           readers = λ j. sound_idle n f some (new_reader 0) refl;
           good = λ later l x e. nowhere later l x e;
         }

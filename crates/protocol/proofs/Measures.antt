@@ -103,7 +103,7 @@ module _ (n f : ℕ) (liar : ℕ → Bool) where
   writing_stays (reads j k' fair) so k = λ _. omega arith
   writing_stays (reader_ticks j fair) so k = λ _. omega arith
   writing_stays (reader_hears j p fair m to) so k = λ _. omega arith
-  writing_stays office_restarts so k = absurd (clash (sym so))
+  writing_stays office_restarts so k = cc
   writing_stays (reader_restarts j first up) so k = λ _. omega arith
   writing_stays (lies p so' other) so k = λ _. omega arith
   writing_stays (loses i) so k = λ _. omega arith
@@ -117,7 +117,7 @@ module _ (n f : ℕ) (liar : ℕ → Bool) where
   round_stays {s} (reader_ticks j' fair) so j = put_all (λ j q. ReaderStays (s.reader j) q) j' (reader_tick n f (s.reader j')).next s.reader (reader_tick_stays (s.reader j')) (λ j _. omega arith) j
   round_stays {s} (reader_hears j' p fair m to) so j = put_all (λ j q. ReaderStays (s.reader j) q) j' (reader_on n f (s.reader j') p.from p.note p.message).next s.reader (reader_stays (s.reader j') p.from p.note p.message) (λ j _. omega arith) j
   round_stays office_restarts so j = λ _. omega arith
-  round_stays (reader_restarts j' first up) so j = absurd (clash (sym so))
+  round_stays (reader_restarts j' first up) so j = cc
   round_stays (lies p so' other) so j = λ _. omega arith
   round_stays (loses i) so j = λ _. omega arith
 

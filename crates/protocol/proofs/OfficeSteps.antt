@@ -39,9 +39,9 @@ module _ (n f : ℕ) (liar : ℕ → Bool) (k j : ℕ) where
       desk = record {
         edition = ap suc h.desk.edition;
         value = value;
-        idle = λ e. absurd (clash (sym e));
+        idle = λ e. cc;
         busy = λ e. omega (arith, h.desk.idle idle);
-        acks = λ i e. absurd (clash e);
+        acks = λ i e. cc;
         begun = λ e one below. ⊎_elim (here e) (there e one below) (cases_eq e (suc w.office.edition));
         most = let old = h.desk.most in let is = h.desk.edition in grind arith;
         some = λ e u m. ⊎_elim (λ (is : Began k e u ≡ Began k (suc z.desk.now.edition) v). let same : e ≡ suc z.desk.now.edition = cc in omega arith) (h.desk.some e u) (Memᴰ.cases_cons m);
@@ -93,7 +93,7 @@ module _ (n f : ℕ) (liar : ℕ → Bool) (k j : ℕ) where
     w,
     reach,
     record {
-      desk = record { edition = h.desk.edition; value = h.desk.value; idle = h.desk.idle; busy = h.desk.busy; acks = λ i e. absurd (clash e); begun = h.desk.begun; most = h.desk.most; some = h.desk.some; done = h.desk.done; ended = h.desk.ended };
+      desk = record { edition = h.desk.edition; value = h.desk.value; idle = h.desk.idle; busy = h.desk.busy; acks = λ i e. cc; begun = h.desk.begun; most = h.desk.most; some = h.desk.some; done = h.desk.done; ended = h.desk.ended };
       warden = h.warden;
       reader = h.reader;
       bag = h.bag;
@@ -111,7 +111,7 @@ module _ (n f : ℕ) (liar : ℕ → Bool) (k j : ℕ) where
             edition = h.desk.edition;
             value = h.desk.value;
             idle = λ _. refl;
-            busy = λ e. absurd (clash e);
+            busy = λ e. cc;
             acks = h.desk.acks;
             begun = λ e one below. Memᴰ.tail (h.desk.begun e one below);
             most = omega (arith, h.desk.most);

@@ -42,7 +42,7 @@ module _ (n f : ℕ) (some : f < n) where
     where
       go : {m : Message} {o : Step Desk OfficeDone} → OfficeCase n f d from m o → SoundDesk n f o.next
       go (took_counts below on short) = λ _. short
-      go (took_ends below on all) = λ busy. absurd (clash busy)
+      go (took_ends below on all) = λ busy. cc
       go (office_passes e) = h
 
   -- who does not read is sound
@@ -79,6 +79,6 @@ module _ (n f : ℕ) (some : f < n) where
   sound_reader q from k m h = go (reader_case n f q from k m)
     where
       go : {m : Message} {o : Step Reader ReaderDone} → ReaderCase n f q from k m o → SoundReader n f o.next
-      go (told_counts r x below due short) = record { begun = h.begun; nothing = λ _ so. absurd (both_ways (decided n f (hear from x q)) short so); more = λ _ so. absurd (both_ways (decided n f (hear from x q)) short so) }
+      go (told_counts r x below due short) = record { begun = h.begun; nothing = λ _ so. cc; more = λ _ so. cc }
       go (told_decides r x below due full) = sound_decide (hear from x q) h.begun (decide_case (hear from x q) (pick n f (hear from x q).replies n)) refl
       go (reader_passes e) = h

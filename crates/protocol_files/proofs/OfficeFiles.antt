@@ -4,7 +4,6 @@
 use Rattle.std.proofs.Common.{◌≡◌, ℕ, zero, suc, ◌^◌, ◌<◌, true, false, eqb, List, [], ◌∷◌, ◌++◌, take, sym, refl, ap, ◌∙◌, subst, arith}
 use mathlib.Core.List.{Memᴰ}
 use lib.Seq.{take-nil}
-use borrow.Author.Tests.{clash}
 use Rattle.std.proofs.lemmas.Bool.{leb-false, eq-eqb, cond-true}
 use Rattle.register.specs.Note.{Note}
 use Rattle.protocol.specs.Message.{office, Take, Packet}
@@ -121,7 +120,7 @@ module _ (n : ℕ) (bag : List Packet) (l : Log) (o : Office) (c : Node Office) 
         base = h.base;
         files = each_cut (OfficeFile h.base o) (λ k g f. record { old = f.old; new = f.new; has = keeps k f.has; means = f.means; waits = f.waits }) fall h.files;
         stands = h.stands;
-        working = λ up. absurd (clash up);
+        working = λ up. cc;
       }
 
   pub office_scribbles : (g : File) → OfficeShows n bag l o (with_disk (with_beside g c.disk) c)
@@ -139,7 +138,7 @@ module _ (n : ℕ) (bag : List Packet) (l : Log) (o : Office) (c : Node Office) 
             (anew.same ∙ ap office_of (known roles.Office anew.old now_file.old anew.read now_file.has.records (sym anew.sure ∙ now_file.has.sure)) ∙ now_file.means))
             h.files;
         stands = h.stands;
-        working = λ up. absurd (clash up);
+        working = λ up. cc;
       }
 
   -- what it finds on its file
@@ -180,7 +179,7 @@ module _ (n : ℕ) (bag : List Packet) (l : Log) (o : Office) (c : Node Office) 
             waits = waits;
           }));
           stands = stands;
-          working = λ up. absurd (clash up);
+          working = λ up. cc;
         }
 
 pub new_shows : (n : ℕ) → OfficeShows n [] [] empty_office new_office
@@ -188,6 +187,6 @@ new_shows n =
     record {
       base = empty_office;
       files = one (OfficeFile empty_office empty_office) (sure_file empty_office [] refl tt refl refl);
-      stands = record { desk = λ k. record { now = refl; busy = λ on. on; ended = λ on. absurd (clash on); sent = λ on. absurd (clash on) }; had = refl; many = refl };
-      working = λ up. absurd (clash up);
+      stands = record { desk = λ k. record { now = refl; busy = λ on. on; ended = λ on. cc; sent = λ on. cc }; had = refl; many = refl };
+      working = λ up. cc;
     }

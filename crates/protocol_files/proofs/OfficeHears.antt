@@ -2,7 +2,6 @@
 -- Assumes nothing.
 use Rattle.std.proofs.Common.{◌≡◌, ℕ, ◌*◌, ◌^◌, ◌<◌, Bool, true, false, List, [], ◌∷◌, take, sym, refl, ap, ◌∙◌, subst, ⊎_elim, arith}
 use mathlib.Core.List.{Memᴰ}
-use borrow.Author.Tests.{clash}
 use Rattle.std.proofs.lemmas.Bool.{both_ways, cases_Bool, false_from_ne_true, cond-true, cond-false, ne_eqb}
 use Rattle.register.specs.Note.{Note}
 use Rattle.register.proofs.Put.{put_at, put_all, put_both, put_same}
@@ -66,7 +65,7 @@ module _ (n f : ℕ) (liar : ℕ → Bool) (least : 4 * f < n) (s : System) {o :
         then = next;
         run = subst (λ (l : Log). tables.Run n f liar (record { office = next; warden = w; reader = s.reader; bag = b; log = l })) (sym news) run;
         stands = subst (λ (l : Log). Stands n b l base next) (sym news) (stands_kept (stands_more (λ p at. at) (λ x at. Memᴰ.tail at) h.office.stands) k (close more) next.under_way (had_busy n f liar s least h k (base_on on))
-            (record { now = sym (work.like.desk k).now; busy = λ so. absurd (clash so); ended = λ _ _. Memᴰ.head (ap (λ (y : Note). Ended k y.edition) (sym (work.like.desk k).now)); sent = λ so. (h.office.stands.desk k).sent so }));
+            (record { now = sym (work.like.desk k).now; busy = λ so. cc; ended = λ _ _. Memᴰ.head (ap (λ (y : Note). Ended k y.edition) (sym (work.like.desk k).now)); sent = λ so. (h.office.stands.desk k).sent so }));
         off = ap (λ (e : Desk). e.busy) (put_same k (close more) o.desks.at);
         had = put_same k true o.desks.had;
         others = λ j apart. rw (ne_eqb j k apart);
@@ -132,13 +131,13 @@ module _ (n f : ℕ) (liar : ℕ → Bool) (least : 4 * f < n) (s : System) {o :
       here : (o.desks.at k).busy ≡ true → Followed n f liar (by_office n k (keep_counting m k (quiet more counted)) s)
       here busy =
           after (keep_counting o k (quiet more counted)).next (runs busy)
-          (stands_kept h.office.stands k more o.under_way had (record { now = sym (work.like.desk k).now; busy = λ _. base_on on; ended = λ _ off. absurd (both_ways d.busy off on); sent = (h.office.stands.desk k).sent }))
+          (stands_kept h.office.stands k more o.under_way had (record { now = sym (work.like.desk k).now; busy = λ _. base_on on; ended = λ _ off. cc; sent = (h.office.stands.desk k).sent }))
           (put_both (λ _ (d e : Desk). e.busy ≡ true → d ≡ e) k more more m.desks.at o.desks.at (λ _. refl) work.same)
 
       there : (o.desks.at k).busy ≡ false → Followed n f liar (by_office n k (keep_counting m k (quiet more counted)) s)
       there off =
           after o h.run h.office.stands
-          (put_all (λ j (e : Desk). (o.desks.at j).busy ≡ true → e ≡ o.desks.at j) k more m.desks.at (λ so. absurd (both_ways (o.desks.at k).busy off so)) work.same)
+          (put_all (λ j (e : Desk). (o.desks.at j).busy ≡ true → e ≡ o.desks.at j) k more m.desks.at (λ so. cc) work.same)
 
   -- A WRITING HAS COME TO AN END
   ends_on : d.busy ≡ true → Runs (quiet (close more) ended) → Ordered (keep_counting m k (quiet (close more) ended)).next → Followed n f liar (by_office n k (keep_counting m k (quiet (close more) ended)) s)

@@ -3,7 +3,6 @@
 use Rattle.std.proofs.Common.{◌≡◌, ℕ, suc, Bool, true, false, eqb, List, [], ◌∷◌, ◌++◌, sym, refl, ap, ◌∙◌, ⊎_elim}
 use mathlib.Core.List.Memᴰ
 use mathlib.Core.List.{Memᴰ}
-use borrow.Author.Tests.{clash}
 use Rattle.std.proofs.lemmas.Bool.{both_ways, false_from_ne_true, cond-true, cond_both, eq-eqb, eqb-true, and_parts, or_cases, or_left, or_right}
 use Rattle.register.specs.Count.{put}
 use Rattle.register.specs.Note.{Note}
@@ -38,7 +37,7 @@ module _ {n : ℕ} {bag : List Packet} {l : Log} {base o : Office} (h : Stands n
   stands_begun v =
       record {
         desk = put_both (λ j d e. DeskStands n j (ps ++ bag) (Began k x.edition v ∷ l) d e) k (first_step v).next (first_step v).next base.desks.at o.desks.at
-            (record { now = refl; busy = λ on. on; ended = λ _ off. absurd (clash (sym off)); sent = λ _ i below. Memᴰ.append_left bag (at_each n (λ i. record { from = office; to = i; note = k; message = Take x }) i below) })
+            (record { now = refl; busy = λ on. on; ended = λ _ off. cc; sent = λ _ i below. Memᴰ.append_left bag (at_each n (λ i. record { from = office; to = i; note = k; message = Take x }) i below) })
             (λ j. desk_more (λ p at. Memᴰ.append_right ps at) (λ e at. Memᴰ.tail at) (h.desk j));
         had = ap (put k true) h.had;
         many = rw (h.had, h.many);
@@ -63,7 +62,7 @@ module _ {n : ℕ} {bag : List Packet} {l : Log} {base o : Office} (h : Stands n
   pub stands_closed : o.desks.had k ≡ true → (o.desks.at k).busy ≡ false → Stands n bag l (closed base k) o
   stands_closed had off =
       record {
-        desk = put_all (λ j d. DeskStands n j bag l d (o.desks.at j)) k (close (base.desks.at k)) base.desks.at (record { now = (h.desk k).now; busy = λ on. absurd (both_ways (o.desks.at k).busy off on); ended = λ on. absurd (clash on); sent = λ on. absurd (clash on) }) h.desk;
+        desk = put_all (λ j d. DeskStands n j bag l d (o.desks.at j)) k (close (base.desks.at k)) base.desks.at (record { now = (h.desk k).now; busy = λ on. cc; ended = λ on. cc; sent = λ on. cc }) h.desk;
         had = put_idle k true base.desks.had (ap (λ (g : ℕ → Bool). g k) h.had ∙ had) ∙ h.had;
         many = cond-true (base.desks.had k) base.desks.many (suc base.desks.many) (ap (λ (g : ℕ → Bool). g k) h.had ∙ had) ∙ h.many;
       }
@@ -73,17 +72,17 @@ stands_forgetful h = record { desk = λ k. record { now = (h.desk k).now; busy =
 
 -- ENDS IN THE LOG
 ends_there : (k e : ℕ) (x : Event) → ends_in k e x ≡ true → Ended k e ≡ x
-ends_there k e (Began k' e' v) so = absurd (clash so)
+ends_there k e (Began k' e' v) so = cc
 ends_there k e (Ended k' e') so = let (here, there) = and_parts (eqb k k') (eqb e e') so in rw (eqb-true k k' here, eqb-true e e' there)
-ends_there k e (Took i k' e') so = absurd (clash so)
-ends_there k e (Lost i) so = absurd (clash so)
-ends_there k e (Asked j k') so = absurd (clash so)
-ends_there k e (Retried j k') so = absurd (clash so)
-ends_there k e (Read j k' e' v) so = absurd (clash so)
-ends_there k e (Unsure j k') so = absurd (clash so)
+ends_there k e (Took i k' e') so = cc
+ends_there k e (Lost i) so = cc
+ends_there k e (Asked j k') so = cc
+ends_there k e (Retried j k') so = cc
+ends_there k e (Read j k' e' v) so = cc
+ends_there k e (Unsure j k') so = cc
 
 pub ended_there : (k e : ℕ) (l : Log) → has_ended k e l ≡ true → Memᴰ (Ended k e) l
-ended_there k e [] so = absurd (clash so)
+ended_there k e [] so = cc
 ended_there k e (x ∷ l) so = ⊎_elim (λ here. Memᴰ.head (ends_there k e x here)) (λ there. Memᴰ.tail (ended_there k e l there)) (or_cases (ends_in k e x) (has_ended k e l) so)
 
 pub ended_so : (k e : ℕ) (l : Log) → Memᴰ (Ended k e) l → has_ended k e l ≡ true

@@ -125,6 +125,6 @@ comes_up n f liar least s run = ⊎_elim up down (cases_Bool s.office.up)
             way = along n f liar way h.way;
             onward = further (record { reader = refl; bag = λ p at. at; more = more; log = is }) h.onward;
             all = record { office = ap (λ c. c.up) h.office; warden = h.awake };
-            office = λ on. absurd (both_ways s.office.up off on);
+            office = λ on. cc;
           },
         )

@@ -3,7 +3,6 @@
 use Rattle.std.proofs.Common.{◌≡◌, ℕ, true, List, [], ◌∷◌, ◌++◌, length, sym, refl, ap, ◌∙◌, subst}
 use mathlib.Core.List.{Memᴰ}
 use lib.Seq.{take-length}
-use borrow.Author.Tests.{clash}
 use Rattle.std.proofs.lemmas.Bool.{cond-false}
 use Rattle.register.specs.Note.{Note, none}
 use Rattle.register.proofs.Put.{put_same}
@@ -101,7 +100,7 @@ module _ (n i : ℕ) (bag : List Packet) (d : Keep Note) (c : Node Warden) (h : 
   warden_cut {e} fall = each_cut (WardenFile i bag d) (λ k g f. record { old = f.old; new = f.new; has = keeps k f.has; means = f.means; taken = f.taken }) fall h.files
 
   pub warden_falls : {e : Disk} → Cut c.disk e → (m : Warden) → WardenShows n i bag d (fallen e m)
-  warden_falls fall m = record { files = warden_cut fall; working = λ up. absurd (clash up) }
+  warden_falls fall m = record { files = warden_cut fall; working = λ up. cc }
 
   pub warden_scribbles : (g : File) → WardenShows n i bag d (with_disk (with_beside g c.disk) c)
   warden_scribbles g = record { files = h.files; working = λ up. let w = h.working up in record { former = w.former; written = w.written; batch = w.batch; pending = w.pending } }
@@ -113,7 +112,7 @@ module _ (n i : ℕ) (bag : List Packet) (d : Keep Note) (c : Node Warden) (h : 
             (sure_file i bag anew.new (ap (λ (g : File). g.synced) anew.beside) anew.records (ap (λ (g : File). g.pending) anew.beside)
             (anew.same ∙ ap warden_of (known roles.Warden anew.old f.old anew.read f.has.records (sym anew.sure ∙ f.has.sure)) ∙ f.means))
             h.files;
-        working = λ up. absurd (clash up);
+        working = λ up. cc;
       }
     where
       f : WardenFile i bag d c.disk.file
@@ -190,4 +189,4 @@ module _ (n i : ℕ) (bag : List Packet) (d : Keep Note) (c : Node Warden) (h : 
         sure = ap (λ (bs : List ℕ). bs ++ c.disk.file.pending) now_file.has.sure ∙ ap (λ (bs : List ℕ). encode_all now_file.old ++ bs) at_work.pending ∙ sym (encode_all-++ now_file.old at_work.written)
 
 pub new_shows : (n i : ℕ) (bag : List Packet) → WardenShows n i bag (empty none) new_warden
-new_shows n i bag = record { files = one (WardenFile i bag (empty none)) (sure_file i bag [] refl tt refl refl); working = λ up. absurd (clash up) }
+new_shows n i bag = record { files = one (WardenFile i bag (empty none)) (sure_file i bag [] refl tt refl refl); working = λ up. cc }

@@ -3,7 +3,6 @@
 use Rattle.std.proofs.Common.{◌≡◌, ℕ, ◌<◌, Bool, false, List, [], ◌∷◌, ◌++◌, sym, refl, ap, ◌∙◌, subst, ⊎_elim}
 use mathlib.Core.List.Memᴰ
 use mathlib.Core.List.{Memᴰ}
-use borrow.Author.Tests.{clash}
 use Rattle.std.proofs.lemmas.Bool.{cond-false}
 use Rattle.register.specs.Count.{put}
 use Rattle.register.specs.Note.{Note}
@@ -34,7 +33,7 @@ took_grows i (f ∷ fs) l x at = took_grows i fs (took_by i f ++ l) x (Memᴰ.ap
 
 -- what is seen of a step is what is seen of the records that it leaves
 pub seen_by : (i k : ℕ) (out : Outcome WardenDone) (x : Note) → takes out ≡ false → warden_event i k x out ≡ []
-seen_by i k (Done taken) x no_take = absurd (clash (sym no_take))
+seen_by i k (Done taken) x no_take = cc
 seen_by i k (Done answered) x no_take = refl
 seen_by i k (Refused m) x no_take = refl
 

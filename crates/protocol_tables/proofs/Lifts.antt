@@ -111,17 +111,17 @@ module _ (n f : ℕ) (liar : ℕ → Bool) where
     reader_covers j o = record { office = refl; warden = refl; reader = refl; log = refl; bag = within_more (packets n j o.next.note o.sends) within }
 
     move_lifts : {v : plain.System} → FairPlain (over bag s) v → Reached v s
-    move_lifts (plain.writes k x, so) = absurd (clash so)
+    move_lifts (plain.writes k x, so) = cc
     move_lifts (plain.office_ticks k, so) = tick_lifts k
     move_lifts (plain.office_hears p m to, so) = one (T.office_hear p (within p m) to) so (office_covers p.from p.note p.message)
     move_lifts (plain.warden_hears i p l own m to, so) = one (T.warden_hear i p l own (within p m) to) so (warden_covers i p.from p.note p.message (λ takes from. roomy s i p.note (run_fits n f liar run) ((run_fits n f liar run).posted p (within p m) takes from)))
-    move_lifts (plain.reads j k own, so) = absurd (clash so)
+    move_lifts (plain.reads j k own, so) = cc
     move_lifts (plain.reader_ticks j own, so) = one (T.reader_ticks j own) so (reader_covers j (reader_tick n f (s.reader j)))
     move_lifts (plain.reader_hears j p own m to, so) = one (T.reader_hears j p own (within p m) to) so (reader_covers j (reader_on n f (s.reader j) p.from p.note p.message))
-    move_lifts (plain.office_restarts, so) = absurd (clash so)
-    move_lifts (plain.reader_restarts j first up, so) = absurd (clash so)
-    move_lifts (plain.lies p yes_so other, so) = absurd (clash so)
-    move_lifts (plain.loses i, so) = absurd (clash so)
+    move_lifts (plain.office_restarts, so) = cc
+    move_lifts (plain.reader_restarts j first up, so) = cc
+    move_lifts (plain.lies p yes_so other, so) = cc
+    move_lifts (plain.loses i, so) = cc
 
   covered : {u : plain.System} {s : System} → Covers u s → u ≡ over u.bag s
   covered {u} h = λ t. record { office = h.office t; warden = h.warden t; reader = h.reader t; bag = u.bag; log = h.log t }

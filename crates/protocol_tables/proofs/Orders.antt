@@ -60,7 +60,7 @@ module _ {o : Office} (h : Ordered o) (k : ℕ) (d : Desk) where
       }
 
 pub empty_ordered : Ordered empty_office
-empty_ordered = record { busy = λ k m. absurd (Memᴰ.not-nil m); listed = λ k e. absurd (clash e) }
+empty_ordered = record { busy = λ k m. absurd (Memᴰ.not-nil m); listed = λ k e. cc }
 
 -- a writing that began, with its letter
 abbrev pub started : Office → (k : ℕ) → List ℕ → OfficeStep

@@ -265,14 +265,14 @@ module _ (n f : ℕ) (liar : ℕ → Bool) where
       record { office_fits = record { counted = record { numbers = c.numbers; once = c.once; had = c.had; many = c.many }; few = h.office_fits.few; busy = h.office_fits.busy }; notes = h.notes; within = h.within; posted = h.posted }
   fits_by {s} (reader_restarts j first up) run h = record { office_fits = h.office_fits; notes = h.notes; within = h.within; posted = h.posted }
   fits_by {s} (lies p so other) run h = also_fits s.reader (p ∷ []) s.log (λ p' m _ from. other (rw (Memᴰ.eq_of_singleton m) at from)) h
-  fits_by {s} (loses i) run h = warden_fits i (empty none) [] (L.Lost i ∷ s.log) (empty_counted none) (λ k e. absurd (clash e)) (λ p m so. Memᴰ.not-nil m) h
+  fits_by {s} (loses i) run h = warden_fits i (empty none) [] (L.Lost i ∷ s.log) (empty_counted none) (λ k e. cc) (λ p m so. Memᴰ.not-nil m) h
 
   pub run_fits : {s : System} → Run n f liar s → Fits s
   run_fits begin =
       record {
-        office_fits = record { counted = empty_counted empty_desk; few = omega arith; busy = λ k e. absurd (clash e) };
+        office_fits = record { counted = empty_counted empty_desk; few = omega arith; busy = λ k e. cc };
         notes = λ i. empty_counted none;
-        within = λ i k e. absurd (clash e);
+        within = λ i k e. cc;
         posted = λ p m. absurd (Memᴰ.not-nil m);
       }
   run_fits (then before m) = fits_by m before (run_fits before)
