@@ -119,11 +119,8 @@ module _ (n f : ℕ) (liar : ℕ → Bool) (k j : ℕ) where
   not_reading : {z : Seen} (q : Reader) (xs : List Event) → Outsides k xs → q.busy ≡ false → z.reader.next ≤ q.next → Followed n f liar k j z → Followed n f liar k j (record { desk = z.desk; warden = z.warden; reader = q; bag = z.bag; log = xs ++ z.log })
   not_reading {z} q xs out idle up at =
       changes n f liar k j q [] xs out
-      (λ w _ h. (nothing_sent n f liar k j w, record { shut = λ r l. h.reader.shut r (omega arith); now = λ e _. no_way e; reads = λ e _. no_way e; left = λ e _. no_way e }))
+      (λ w _ h. (nothing_sent n f liar k j w, record { shut = λ r l. h.reader.shut r (omega arith); now = λ busy _. cc; reads = λ busy _. cc; left = λ busy _. cc }))
       at
-    where
-      no_way : {A : Type 0} → q.busy ≡ true → A
-      no_way e = absurd (clash (sym idle ∙ e))
 
   pub restarting : {z : Seen} (first : ℕ) → z.reader.next ≤ first → Followed n f liar k j z → Followed n f liar k j (record { desk = z.desk; warden = z.warden; reader = new_reader first; bag = z.bag; log = z.log })
   restarting first up at = not_reading (new_reader first) [] tt refl up at

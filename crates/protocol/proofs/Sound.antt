@@ -52,7 +52,7 @@ module _ (n f : ℕ) (some : f < n) where
   -- and so is who has just begun a round
   sound_round : (k left : ℕ) (q : Reader) → SoundReader n f (in_round k left q)
   sound_round k left q =
-      record { begun = λ _. omega arith; nothing = λ _ so. absurd (both_ways (decided n f (in_round k left q)) too_few so); more = λ _ so. absurd (both_ways (decided n f (in_round k left q)) too_few so) }
+      record { begun = λ _. omega arith; nothing = λ _ so. cc too_few; more = λ _ so. cc too_few }
 
   pub sound_read : (q : Reader) (k : ℕ) → SoundReader n f q → SoundReader n f (read_on q k).next
   sound_read q k h = go (round_case k more_rounds asked q)

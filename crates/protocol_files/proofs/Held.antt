@@ -51,16 +51,13 @@ taken_more i k (events.Began k' e v) l h = taken_still i k (events.Began k' e v)
 taken_more i k (events.Ended k' e) l h = taken_still i k (events.Ended k' e) l (omega arith) h
 taken_more i k (events.Took i' k' e) l h =
     ⊎_elim
-    (λ (is : i ≡ i'). ⊎_elim
-    (λ (same : k ≡ k'). let now : took i k (events.Took i' k' e) ≡ e = rw (eq-eqb i i' is, eq-eqb k k' same) in
-    ⊎_elim
-    (λ (late : held i k l < e). inr (Memᴰ.head (let new : max (took i k (events.Took i' k' e)) (held i k l) ≡ e = omega arith in cc)))
-    (λ (old : e ≤ held i k l). taken_still i k (events.Took i' k' e) l (omega arith) h)
-    (cases_lt (held i k l) e))
-    (λ apart. taken_still i k (events.Took i' k' e) l (let none : took i k (events.Took i' k' e) ≡ 0 = rw (eq-eqb i i' is, ne_eqb k k' apart) in omega arith) h)
-    (cases_eq k k'))
-    (λ apart. taken_still i k (events.Took i' k' e) l (let none : took i k (events.Took i' k' e) ≡ 0 = rw (ne_eqb i i' apart) in omega arith) h)
-    (cases_eq i i')
+    (λ (late : held i k l < took i k (events.Took i' k' e)).
+    let own : i ≡ i' = grind arith in
+    let about : k ≡ k' = grind arith in
+    let now : max (took i k (events.Took i' k' e)) (held i k l) ≡ e = grind arith in
+    inr (Memᴰ.head (cc)))
+    (λ (old : took i k (events.Took i' k' e) ≤ held i k l). taken_still i k (events.Took i' k' e) l (omega arith) h)
+    (cases_lt (held i k l) (took i k (events.Took i' k' e)))
 taken_more i k (events.Lost i') l h = ⊎_elim (λ (is : i ≡ i'). inl (rw (eq-eqb i i' is))) (λ apart. taken_still i k (events.Lost i') l (rw (ne_eqb i i' apart) (omega arith)) h) (cases_eq i i')
 taken_more i k (events.Asked j k') l h = taken_still i k (events.Asked j k') l (omega arith) h
 taken_more i k (events.Retried j k') l h = taken_still i k (events.Retried j k') l (omega arith) h
@@ -79,26 +76,13 @@ abbrev pub ToldRight : (n : ℕ) (liar : ℕ → Bool) → List Packet → Log �
 ToldRight n liar bag l = (p : Packet) (r : ℕ) (x : Note) → Memᴰ p bag → p.from < n → liar p.from ≡ false → p.message ≡ Told r x → (x.edition ≡ 0) ⊎ Memᴰ (events.Took p.from p.note x.edition) l
 
 took_here : (i k e : ℕ) (l : Log) → held i k l < e → held i k (events.Took i k e ∷ l) ≡ e
-took_here i k e l late = rw (eq-eqb i i refl, eq-eqb k k refl) (omega arith)
+took_here i k e l late = grind arith
 
 took_holding : (w : ℕ → Keep Note) (l : Log) (i k : ℕ) (x : Note) → ((w i).at k).edition < x.edition → Holding w l → Holding (put i (store k x (w i)) w) (events.Took i k x.edition ∷ l)
-took_holding w l i k x late h j c =
-    ⊎_elim
-    (λ (is : j ≡ i). ⊎_elim
-    (λ (same : c ≡ k). subst (λ (j : ℕ). Same j c) (sym is) (subst (Same i) (sym same) here))
-    (λ apart. subst (λ (j : ℕ). Same j c) (sym is) (rw (eq-eqb i i refl, ne_eqb c k apart) (omega (arith, h i c))))
-    (cases_eq c k))
-    (λ apart. rw (ne_eqb j i apart) (omega (arith, h j c)))
-    (cases_eq j i)
-  where
-    Same : ℕ → ℕ → Type 0
-    Same j c = held j c (events.Took i k x.edition ∷ l) ≡ ((put i (store k x (w i)) w j).at c).edition
-
-    here : Same i k
-    here = took_here i k x.edition l (omega (arith, h i k)) ∙ ap (λ (y : Note). y.edition) (sym (put_same k x (w i).at)) ∙ ap (λ (d : Keep Note). (d.at k).edition) (sym (put_same i (store k x (w i)) w))
+took_holding w l i k x late h j c = let here = h i k in let old = h j c in grind arith
 
 lost_holding : (w : ℕ → Keep Note) (l : Log) (i : ℕ) (d : Keep Note) → ((k : ℕ) → (d.at k).edition ≡ 0) → Holding w l → Holding (put i d w) (Lost i ∷ l)
-lost_holding w l i d none h j k = ⊎_elim (λ (is : j ≡ i). rw (eq-eqb j i is) (sym (none k))) (λ apart. rw (ne_eqb j i apart) (omega (arith, h j k))) (cases_eq j i)
+lost_holding w l i d none h j k = let gone = none k in let old = h j k in grind arith
 
 told_more : (n : ℕ) (liar : ℕ → Bool) {bag : List Packet} {l log : Log} (ps : List Packet) → ((p : Packet) (r : ℕ) (x : Note) → Memᴰ p ps → p.from < n → liar p.from ≡ false → p.message ≡ Told r x → (x.edition ≡ 0) ⊎ Memᴰ (events.Took p.from p.note x.edition) log) → Within l log → ToldRight n liar bag l → ToldRight n liar (ps ++ bag) log
 told_more n liar ps new news h p r x at below own is =

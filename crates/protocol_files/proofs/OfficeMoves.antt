@@ -63,12 +63,12 @@ module _ (n f : ℕ) (liar : ℕ → Bool) (s : System) where
       st = begin_writing (h.office.base.desks.at k) v
 
   begun_fits : {o : Office} {w : ℕ → Keep Note} {b : List Packet} (h : Shown n f liar s o w b) (k : ℕ) (v : List ℕ) → Writable k v → Ready h.office.base k → LogFits (Began k (begin_writing (h.office.base.desks.at k) v).next.now.edition v ∷ s.log)
-  begun_fits h k v fits ready k' e' v' at =
-      ⊎_elim (λ (is : Began k' e' v' ≡ Began k (begin_writing (h.office.base.desks.at k) v).next.now.edition v).
+  begun_fits h k v fits ready k' e' v' (Memᴰ.head is) =
       let a : k' ≡ k = cc in
       let b : e' ≡ (begin_writing (h.office.base.desks.at k) v).next.now.edition = cc in
       let c : v' ≡ v = cc in
-      rw (a, b, c) (start_fits v fits ready).0.0) (h.fits k' e' v') (Memᴰ.cases_cons at)
+      rw (a, b, c) (start_fits v fits ready).0.0
+  begun_fits h k v fits ready k' e' v' (Memᴰ.tail at) = h.fits k' e' v' at
 
   module _ (k : ℕ) (v : List ℕ) (fits : Writable k v) (up : s.office.up ≡ true) where
     -- it begins by the note that its records ask for

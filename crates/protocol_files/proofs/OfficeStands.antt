@@ -87,11 +87,8 @@ ended_there k e (x ∷ l) so = ⊎_elim (λ here. Memᴰ.head (ends_there k e x 
 
 pub ended_so : (k e : ℕ) (l : Log) → Memᴰ (Ended k e) l → has_ended k e l ≡ true
 ended_so k e [] at = absurd (Memᴰ.not-nil at)
-ended_so k e (x ∷ l) at =
-    ⊎_elim
-    (λ (is : Ended k e ≡ x). or_left (ends_in k e x) (has_ended k e l) (ap (ends_in k e) (sym is) ∙ rw (eq-eqb k k refl, eq-eqb e e refl)))
-    (λ at. or_right (ends_in k e x) (has_ended k e l) (ended_so k e l at))
-    (Memᴰ.cases_cons at)
+ended_so k e (x ∷ l) (Memᴰ.head is) = or_left (ends_in k e x) (has_ended k e l) (ap (ends_in k e) (sym is) ∙ rw (eq-eqb k k refl, eq-eqb e e refl))
+ended_so k e (x ∷ l) (Memᴰ.tail at) = or_right (ends_in k e x) (has_ended k e l) (ended_so k e l at)
 
 pub news_fits : (k e : ℕ) (l : Log) → LogFits l → LogFits (ended_news k e l)
 news_fits k e l h =

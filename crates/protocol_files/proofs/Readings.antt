@@ -63,7 +63,8 @@ module _ (n f : ℕ) (liar : ℕ → Bool) (least : 4 * f < n) where
     before = rw (eq-eqb j j refl)
 
     in_log : {y : Event} → Memᴰ y (Asked j k ∷ l) → (y ≡ Asked j k → ⊥) → Memᴰ y l
-    in_log at other = ⊎_elim (λ is. absurd (other is)) (λ at. at) (Memᴰ.cases_cons at)
+    in_log (Memᴰ.head is) other = absurd (other is)
+    in_log (Memᴰ.tail at) other = at
 
     old : (e : ℕ) (v : List ℕ) → Memᴰ (Began k e v) (Asked j k ∷ l) → Memᴰ (Began k e v) l
     old e v at = in_log at (λ (is : Began k e v ≡ Asked j k). cc)

@@ -10,9 +10,8 @@ use Rattle.protocol_files.specs.Records.{warden_replays_all, warden_of}
 use Rattle.protocol_files.specs.Nodes.{Node, Warden}
 use Rattle.protocol_files.specs.System.{System, Run}
 use Rattle.protocol_files.specs.Runs.{GoodRun}
-use Rattle.protocol_files.proofs.Disks.{first}
 use Rattle.protocol_files.proofs.Takes.{replays-++, taken_records}
-use Rattle.protocol_files.proofs.WardenFiles.{WardenFile, batch_taken}
+use Rattle.protocol_files.proofs.WardenFiles.{batch_taken, file_in_use}
 use Rattle.protocol_files.proofs.WardenMoves.{bag_fits}
 use Rattle.protocol_files.proofs.OfficeFiles.{now_file}
 use Rattle.protocol_files.proofs.Refines.{followed, holds}
@@ -39,13 +38,13 @@ module _ (n f : ℕ) (liar : ℕ → Bool) (s : System) (least : 4 * f < n) (run
     pub sound_warden : (ss : List Frame) × ((s.warden i).disk.file.synced ≡ encode_all ss) × Records roles.Warden ss
     sound_warden =
         let (o, w, b, h) = followed n f liar least run in
-        let file = first (WardenFile i s.bag (w i)) (s.warden i).disk.file (s.warden i).disk.former (h.warden i below own).files in
+        let file = file_in_use n i s.bag (w i) (s.warden i) (h.warden i below own) in
         (file.old, file.has.sure, file.has.records)
 
     pub up_warden : (s.warden i).up ≡ true → WardenWorks (s.warden i)
     up_warden up =
         let (o, w, b, h) = followed n f liar least run in
-        let file = first (WardenFile i s.bag (w i)) (s.warden i).disk.file (s.warden i).disk.former (h.warden i below own).files in
+        let file = file_in_use n i s.bag (w i) (s.warden i) (h.warden i below own) in
         let work = (h.warden i below own).working up in
         let (taken, is) = batch_taken i s.bag (bag_fits n f liar s least h) work.batch in
         record {

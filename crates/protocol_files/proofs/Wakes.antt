@@ -10,8 +10,7 @@ use Rattle.protocol_files.specs.Nodes.{Node, Warden, flushed, opened_warden}
 use Rattle.protocol_files.specs.System.{System, warden_flushed, warden_opened, office_opened, office_opens, warden_flushes, warden_opens, Run}
 use Rattle.protocol_files.specs.Progress.{Way, here, Onward, Awake, Up, ComesUp}
 use Rattle.protocol_files.proofs.Journals.{finds_some}
-use Rattle.protocol_files.proofs.Disks.{first}
-use Rattle.protocol_files.proofs.WardenFiles.{WardenFile}
+use Rattle.protocol_files.proofs.WardenFiles.{file_in_use}
 use Rattle.protocol_files.proofs.OfficeFiles.{now_file}
 use Rattle.protocol_files.proofs.Refines.{followed}
 use Rattle.protocol_files.proofs.Sound.{up_warden}
@@ -50,7 +49,7 @@ module _ (n f : ℕ) (liar : ℕ → Bool) (least : 4 * f < n) where
       down : (s.warden i).up ≡ false → (t : System) × Wakes i s t
       down off =
           let (o, w, b, h) = followed n f liar least run in
-          let file = first (WardenFile i s.bag (w i)) (s.warden i).disk.file (s.warden i).disk.former (h.warden i below own).files in
+          let file = file_in_use n i s.bag (w i) (s.warden i) (h.warden i below own) in
           let ss = file.old in
           let (ps, rest, found) = finds_some file.has in
           let (more, is) = took_front i ps s.log in (

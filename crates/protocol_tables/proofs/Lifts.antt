@@ -50,11 +50,8 @@ in_post n (l ∷ ls) bag p m = in_post n ls (packets n office l.note l.sends ++ 
 
 pub posted : (n : ℕ) (d : Keep Desk) (ks : List ℕ) (bag : List Packet) (k : ℕ) → Memᴰ k ks → Within (packets n office k (Each (Take (d.at k).now))) (post n (map (again d) ks) bag)
 posted n d [] bag k m p at = absurd (Memᴰ.not-nil m)
-posted n d (x ∷ ks) bag k m p at =
-    ⊎_elim
-    (λ (is : k ≡ x). in_post n (map (again d) ks) (packets n office x (Each (Take (d.at x).now)) ++ bag) p (Memᴰ.append_left bag (rw is at at)))
-    (λ m. posted n d ks (packets n office x (Each (Take (d.at x).now)) ++ bag) k m p at)
-    (Memᴰ.cases_cons m)
+posted n d (x ∷ ks) bag k (Memᴰ.head is) p at = in_post n (map (again d) ks) (packets n office x (Each (Take (d.at x).now)) ++ bag) p (Memᴰ.append_left bag (rw is at at))
+posted n d (x ∷ ks) bag k (Memᴰ.tail m) p at = posted n d ks (packets n office x (Each (Take (d.at x).now)) ++ bag) k m p at
 
 module _ (n f : ℕ) (liar : ℕ → Bool) where
   abbrev FairPlain : plain.System → plain.System → Type 0
@@ -102,7 +99,7 @@ module _ (n f : ℕ) (liar : ℕ → Bool) where
         go (warden_takes x own late) fits =
             cond_both (room k (s.warden i)) (record { next = store k x (s.warden i); sends = One office (Took x.edition); outcome = Done taken }) (refuse (s.warden i) 6) (λ (o : Step (Keep Note) WardenDone). Covers (plain.by_warden n i k (takes_note x) (over bag s)) (by_warden n i k o s))
             (λ _. record { office = refl; warden = put_map (λ (d : Keep Note). d.at) i (store k x (s.warden i)) s.warden; reader = refl; log = ap (λ (z : Note). plain.warden_event i k z (Done taken) ++ s.log) (sym (put_same k x (s.warden i).at)); bag = within_more (packets n i k (One office (Took x.edition))) within })
-            (λ full. absurd (clash (sym full ∙ fits refl own)))
+            (λ full. cc (fits refl own))
         go (warden_had x own early) fits = unchanged i k (packets n i k (One office (Took x.edition)))
         go (warden_answers r) fits = unchanged i k (packets n i k (One from (Told r ((s.warden i).at k))))
         go warden_passes fits = unchanged i k []

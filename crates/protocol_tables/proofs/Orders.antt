@@ -1,6 +1,6 @@
 -- The writings under way are those of the notes that are being written.
 -- Assumes nothing.
-use Rattle.std.proofs.Common.{◌≡◌, ℕ, true, false, eqb, List, [], ◌∷◌, ◌++◌, sym, refl, ◌∙◌, ⊎_elim}
+use Rattle.std.proofs.Common.{◌≡◌, ℕ, true, false, eqb, List, [], ◌∷◌, ◌++◌, sym, refl, ◌∙◌, ⊎_elim, arith}
 use mathlib.Core.List.Memᴰ
 use mathlib.Core.List.{Memᴰ}
 use borrow.Author.Tests.{clash}
@@ -22,7 +22,7 @@ not_in_without k x [] = λ m. absurd (Memᴰ.not-nil m)
 not_in_without k x (y ∷ xs) =
     cond_both (eqb k y) (without k xs) (y ∷ without k xs) (λ l. Memᴰ x l → (x ≡ k → ⊥) × Memᴰ x (y ∷ xs))
     (λ _ m. let (apart, at) = not_in_without k x xs m in (apart, Memᴰ.tail at))
-    (λ other m. ⊎_elim (λ (is : x ≡ y). (λ (same : x ≡ k). absurd (clash (sym other ∙ eq-eqb k y (sym same ∙ is))), Memᴰ.head is)) (λ m. let (apart, at) = not_in_without k x xs m in (apart, Memᴰ.tail at)) (Memᴰ.cases_cons m))
+    (λ other m. ⊎_elim (λ (is : x ≡ y). (λ (same : x ≡ k). grind arith, Memᴰ.head is)) (λ m. let (apart, at) = not_in_without k x xs m in (apart, Memᴰ.tail at)) (Memᴰ.cases_cons m))
 
 pub in_without : (k x : ℕ) (xs : List ℕ) → (x ≡ k → ⊥) → Memᴰ x xs → Memᴰ x (without k xs)
 in_without k x [] apart m = m

@@ -295,7 +295,7 @@ never_full n f liar s run i p m = go (warden_case ((s.warden i).at p.note) p.fro
     go (warden_takes x own late) known =
         cond_both (room p.note (s.warden i)) (record { next = store p.note x (s.warden i); sends = One office (Took x.edition); outcome = Done taken }) (refuse (s.warden i) 6) (λ (o : Step (Keep Note) WardenDone). o.outcome ≡ Refused 6 → ⊥)
         (λ _ e. cc)
-        (λ full _. clash (sym full ∙ roomy s i p.note h (known refl own)))
+        (λ full _. cc (roomy s i p.note h (known refl own)))
     go (warden_had x own early) known = λ e. cc
     go (warden_answers r) known = λ e. cc
     go warden_passes known = λ e. cc
