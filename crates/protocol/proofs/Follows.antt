@@ -3,7 +3,6 @@
 use Rattle.std.proofs.Common.{◌≡◌, ℕ, ◌*◌, ◌<◌, Bool, true, [], ◌∷◌, ◌++◌, refl, subst, inl, ⊎_elim, arith}
 use mathlib.Core.Path.{fun_ext}
 use mathlib.Core.List.Memᴰ
-use borrow.Author.Tests.{clash}
 use Rattle.std.proofs.lemmas.Bool.{cases_eq, both_ways}
 use Rattle.register.specs.Count.{put}
 use Rattle.register.specs.Note.{Note, none}

@@ -1,7 +1,6 @@
 -- How many of the honest are missing.
 -- Assumes nothing.
 use Rattle.std.proofs.Common.{◌≡◌, ℕ, ◌<◌, ◌≤◌, Bool, true, false, ltb, List, sym, refl, ap, ◌∙◌, subst, arith}
-use borrow.Author.Tests.{clash}
 use Rattle.std.proofs.lemmas.Bool.{cond_both, cond-true, eq-eqb, lt-ltb}
 use Rattle.register.specs.Count.{count, put}
 use Rattle.register.specs.Note.{Note}

@@ -1,8 +1,7 @@
 -- A reading of a note that is not being written comes to its end by the honest alone.
 -- Assumes nothing.
-use Rattle.std.proofs.Common.{◌≡◌, ℕ, suc, ◌+◌, ◌-◌, ◌*◌, ◌<◌, ◌≤◌, Bool, true, false, cond, ◌||◌, List, [], ◌∷◌, ◌++◌, sym, refl, ap, ◌∙◌, subst, inr, ⊎_elim, arith}
+use Rattle.std.proofs.Common.{◌≡◌, ℕ, suc, ◌+◌, ◌-◌, ◌*◌, ◌<◌, ◌≤◌, Bool, true, false, cond, ◌||◌, List, [], ◌∷◌, ◌++◌, sym, refl, ap, ◌∙◌, subst, ⊎_elim, arith}
 use mathlib.Core.List.Memᴰ
-use mathlib.Core.List.{Memᴰ}
 use Rattle.std.proofs.lemmas.Bool.{cond-true, cond-false, eq-eqb, leb-true, lt-leb, le-leb}
 use Rattle.register.specs.Count.{count}
 use Rattle.register.specs.Note.{Note}
@@ -12,6 +11,7 @@ use Rattle.register.specs.Model as M
 use Rattle.register.specs.Promise.{Full, Reads}
 use Rattle.register.proofs.Counting.{within, either, nobody}
 use Rattle.register.proofs.Put.{put_same}
+use Rattle.register.proofs.Moves.{Telling, telling}
 use Rattle.register.proofs.Stands as Q
 use Rattle.register.proofs.Picks.{pick_found, pick_nothing}
 use Rattle.protocol.specs.Step.{Done, quiet, refuse}
@@ -61,45 +61,21 @@ module _ (n f : ℕ) (liar : ℕ → Bool) (w : World) (r : ℕ) where
   hears_one : (i : ℕ) (p : Replies) (x : Note) → x ≡ (w.warden i).store → i < n → liar i ≡ false → p.heard i ≡ false → Calm n f liar w r p → Calm n f liar w r (reply i x p)
   hears_one i p x is l honest new m =
       record {
-        world = u;
-        reach = M.then (M.then m.reach first) second;
-        office = m.office;
-        warden = m.warden;
-        live = ap (λ (c : Round). c.live) heard_is ∙ m.live;
-        since = ap (λ (c : Round). c.since) heard_is ∙ m.since;
-        lapsed = λ i. ap (λ (c : Round). c.lapsed i) heard_is ∙ m.lapsed i;
-        replies = ap (λ (c : Round). c.replies) heard_is ∙ ap (reply i x) m.replies;
+        world = t.heard;
+        reach = M.then (M.then m.reach t.first) t.second;
+        office = t.office ∙ m.office;
+        warden = t.warden ∙ m.warden;
+        live = ap (λ (c : Round). c.live) t.round ∙ m.live;
+        since = ap (λ (c : Round). c.since) t.round ∙ m.since;
+        lapsed = λ i. ap (λ (c : Round). c.lapsed i) t.round ∙ m.lapsed i;
+        replies = ap (λ (c : Round). c.replies) t.round ∙ (ap (λ (y : Note). reply i y (m.world.round r).replies) has ∙ ap (reply i x) m.replies);
       }
     where
-      v : World
-      v = m.world
+      t : Telling n f liar m.world r i
+      t = telling n f liar m.world r i l honest m.live (rw m.replies new)
 
-      has : (v.warden i).store ≡ x
+      has : (m.world.warden i).store ≡ x
       has = ap (λ (c : ℕ → Warden). (c i).store) m.warden ∙ sym is
-
-      said : Round
-      said = offering i (v.warden i).store (v.round r)
-
-      t : World
-      t = new_round r said v
-
-      u : World
-      u = new_round r (hearing i x (t.round r)) t
-
-      said_is : t.round r ≡ said
-      said_is = put_same r said v.round
-
-      heard_is : u.round r ≡ hearing i x said
-      heard_is = put_same r (hearing i x (t.round r)) t.round ∙ ap (hearing i x) said_is
-
-      first : Step n f liar v t
-      first = M.tells r i honest m.live
-
-      offered : Memᴰ x (said.offered i)
-      offered = rw (put_same i ((v.warden i).store ∷ (v.round r).offered i) (v.round r).offered) (Memᴰ.head (sym has))
-
-      second : Step n f liar t u
-      second = M.listens r i x l (rw said_is m.live) (rw (said_is, m.replies) new) (inr (rw said_is offered))
 
   -- it comes to the last note that was written
   comes_to : 4 * f < n → w.office.ended ≡ w.office.edition → count n (λ i. liar i || M.behind (w.warden i)) ≤ f → (p : Replies) → quorum n f (answers n p) ≡ true → Calm n f liar w r p → (c : Reading) → pick n f p n ≡ c → c ≡ Found (note w.office w.office.edition)

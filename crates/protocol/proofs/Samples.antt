@@ -11,7 +11,7 @@ use Rattle.protocol.specs.Message.{office, Packet, to_each}
 use Rattle.protocol.specs.Warden.{warden_on}
 use Rattle.protocol.specs.Office.{office_on}
 use Rattle.protocol.specs.Reader.{reader_on}
-use Rattle.protocol.specs.Log.{Began, Ended, Took, Asked, Retried, Read, Unsure}
+use Rattle.protocol.specs.Log.{Began, Asked, Retried, Read, Unsure}
 use Rattle.protocol.specs.Promise.{Busy}
 use Rattle.protocol.specs.System.{System, by_office, by_warden, by_reader, Run, begin, then}
 use Rattle.protocol.specs.System as S

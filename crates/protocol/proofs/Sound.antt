@@ -1,8 +1,7 @@
 -- What each party keeps true by itself: a writing that has all it waits for is no longer under way, nor is a round that came to a note.
 -- Assumes nothing.
 use Rattle.std.proofs.Common.{◌≡◌, ℕ, ◌-◌, ◌<◌, true, false, List, refl, arith}
-use borrow.Author.Tests.{clash}
-use Rattle.std.proofs.lemmas.Bool.{cond_both, both_ways}
+use Rattle.std.proofs.lemmas.Bool.{cond_both}
 use Rattle.register.specs.Count.{count}
 use Rattle.register.specs.Rule.{quorum, Reading, Nothing, pick}
 use Rattle.register.proofs.Counting.{nobody}

@@ -75,9 +75,6 @@ Holding w l = (i k : ℕ) → held i k l ≡ ((w i).at k).edition
 abbrev pub ToldRight : (n : ℕ) (liar : ℕ → Bool) → List Packet → Log → Type 0
 ToldRight n liar bag l = (p : Packet) (r : ℕ) (x : Note) → Memᴰ p bag → p.from < n → liar p.from ≡ false → p.message ≡ Told r x → (x.edition ≡ 0) ⊎ Memᴰ (events.Took p.from p.note x.edition) l
 
-took_here : (i k e : ℕ) (l : Log) → held i k l < e → held i k (events.Took i k e ∷ l) ≡ e
-took_here i k e l late = grind arith
-
 took_holding : (w : ℕ → Keep Note) (l : Log) (i k : ℕ) (x : Note) → ((w i).at k).edition < x.edition → Holding w l → Holding (put i (store k x (w i)) w) (events.Took i k x.edition ∷ l)
 took_holding w l i k x late h j c = let here = h i k in let old = h j c in grind arith
 
