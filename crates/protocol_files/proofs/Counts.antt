@@ -9,10 +9,11 @@ use Rattle.protocol.specs.Office.{OfficeDone, Desk, begin_writing, office_on}
 use Rattle.protocol.proofs.Sound.{SoundDesk, too_few, sound_office}
 use Rattle.protocol_tables.specs.Keep.{store}
 use Rattle.protocol_tables.specs.Office.{Office, OfficeStep, counts, ends, without, leave, office_writes, office_hears}
+use Rattle.protocol_tables.proofs.TableCases.{Written, begins_it, refuses, written}
 use Rattle.frames.specs.Format.{Frame}
 use Rattle.protocol_files.specs.Records.{office_of}
 use Rattle.protocol_files.specs.System.{System, Move, writes, office_tick, office_hear, write_stops, hear_stops, office_falls, office_opens, office_scribbles, office_renames, warden_hear, warden_flushes, warden_falls, warden_opens, warden_scribbles, warden_renames, loses, reads, reader_ticks, reader_hears, reader_restarts, lies, Run, begin, then}
-use Rattle.protocol_files.proofs.OfficeSteps.{Written, begins_it, refuses, written, fresh_of}
+use Rattle.protocol_files.proofs.OfficeSteps.{fresh_of}
 
 module _ (n f : ℕ) (liar : ℕ → Bool) (least : 4 * f < n) where
   abbrev SoundOffice : Office → Type 0

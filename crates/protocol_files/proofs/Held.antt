@@ -23,9 +23,9 @@ use Rattle.protocol_tables.specs.Office.{OfficeStep, Letter, post, keep_counting
 use Rattle.protocol_tables.specs.System.{System, by_office, by_warden, by_reader, Move, writes, office_tick, office_hear, warden_hear, reads, reader_ticks, reader_hears, office_restarts, reader_restarts, lies, loses, Run, begin, then}
 use Rattle.protocol_tables.proofs.Room.{Asks, round_asks, tick_asks, reader_asks, of_post}
 use Rattle.protocol_tables.proofs.Within.{Within}
+use Rattle.protocol_tables.proofs.TableCases.{Written, begins_it, refuses, written}
 use Rattle.protocol_files.proofs.Takes as T
 use Rattle.protocol_files.proofs.WardenRuns.{seen_by}
-use Rattle.protocol_files.proofs.OfficeSteps.{Written, begins_it, refuses, written}
 
 -- WHAT THE LOG SAYS
 reader_held : (i k j : ℕ) (q : Reader) (out : Outcome ReaderDone) (l : Log) → held i k (reader_event j q out ++ l) ≡ held i k l
@@ -89,9 +89,6 @@ told_more n liar ps new news h p r x at below own is =
 never_told : (n from k : ℕ) (m : Message) → ((r : ℕ) (x : Note) → m ≡ Told r x → ⊥) → (p : Packet) (r : ℕ) (x : Note) → Memᴰ p (packets n from k (Each m)) → p.message ≡ Told r x → ⊥
 never_told n from k m other p r x at is = let (i, _, same) = of_each n (λ i. record { from = from; to = i; note = k; message = m }) p at in other r x (sym (ap (λ (p : Packet). p.message) same) ∙ is)
 
-take_tells : (y : Note) (r : ℕ) (x : Note) → Take y ≡ Told r x → ⊥
-take_tells y r x is = cc
-
 asks_tell : (n j k : ℕ) (sends : Sends) → Asks sends → (p : Packet) (r : ℕ) (x : Note) → Memᴰ p (packets n j k sends) → p.message ≡ Told r x → ⊥
 asks_tell n j k words.Nothing so p r x at is = Memᴰ.not-nil at
 asks_tell n j k (One to m) so p r x at is = absurd so
@@ -105,7 +102,7 @@ pub record Honest (n : ℕ) (liar : ℕ → Bool) (s : System) : Type 0 where
 module _ (n f : ℕ) (liar : ℕ → Bool) where
   written_honest : (s : System) (k : ℕ) (v : List ℕ) {o : OfficeStep} → Written s.office k v o → Honest n liar s → Honest n liar (by_office n k o s)
   written_honest s k v (begins_it ready) h =
-      record { holding = λ i c. omega (arith, h.holding i c); told = told_more n liar (packets n office k (Each (Take x))) (λ p r y at _ _ is. absurd (never_told n office k (Take x) (take_tells x) p r y at is)) (λ e at. Memᴰ.tail at) h.told }
+      record { holding = λ i c. omega (arith, h.holding i c); told = told_more n liar (packets n office k (Each (Take x))) (λ p r y at _ _ is. absurd (never_told n office k (Take x) (λ r y is. cc) p r y at is)) (λ e at. Memᴰ.tail at) h.told }
     where
       x : Note
       x = (begin_writing (s.office.desks.at k) v).next.now
@@ -122,7 +119,7 @@ module _ (n f : ℕ) (liar : ℕ → Bool) where
       again_tells : (l : Letter) × Memᴰ l (map (again s.office.desks) s.office.under_way) × Memᴰ p (packets n office l.note l.sends) → ⊥
       again_tells (l, listed, at) =
           let (k, _, same) = Memᴰ.of_map (again s.office.desks) s.office.under_way listed in
-          never_told n office k (Take (s.office.desks.at k).now) (take_tells (s.office.desks.at k).now) p r x (subst (λ (l : Letter). Memᴰ p (packets n office l.note l.sends)) (sym same) at) is
+          never_told n office k (Take (s.office.desks.at k).now) (λ r y is. cc) p r x (subst (λ (l : Letter). Memᴰ p (packets n office l.note l.sends)) (sym same) at) is
 
   -- what it tells it has
   tells_right : (s : System) (i k : ℕ) (sends : Sends) → T.Tells (s.warden i) k sends → Honest n liar s → (p : Packet) (r : ℕ) (x : Note) → Memᴰ p (packets n i k sends) → p.message ≡ Told r x → (x.edition ≡ 0) ⊎ Memᴰ (events.Took p.from p.note x.edition) s.log

@@ -13,6 +13,7 @@ use Rattle.protocol.specs.Log as events
 use Rattle.protocol_tables.specs.Office.{Office, empty_office, office_writes}
 use Rattle.protocol_tables.proofs.Orders.{Ordered}
 use Rattle.protocol_tables.proofs.Within.{Within}
+use Rattle.protocol_tables.proofs.TableCases.{Ready, begun_by}
 use Rattle.frames.specs.Format.{Frame, Begun, Ended}
 use Rattle.frames.specs.Journal.{Records, encode_all}
 use Rattle.frames.specs.declared.role.Role.TheVariants as roles
@@ -23,7 +24,7 @@ use Rattle.protocol_files.specs.Nodes.{Node, new_office, with_disk, fallen}
 use Rattle.protocol_files.specs.System.{Found, Writable, Anew}
 use Rattle.protocol_files.proofs.Journals.{Has, sure_only, keeps, known, finds}
 use Rattle.protocol_files.proofs.Disks.{Each, one, first, each_cut, each_more}
-use Rattle.protocol_files.proofs.OfficeSteps.{Ready, begun_by, ready_writes, Like, office_replays-++, closed, closes}
+use Rattle.protocol_files.proofs.OfficeSteps.{ready_writes, Like, office_replays-++, closed, closes}
 
 -- DESKS: d by the records that are synced, e without files
 pub record DeskStands (n k : ℕ) (bag : List Packet) (l : Log) (d e : Desk) : Type 0 where

@@ -18,6 +18,7 @@ use Rattle.protocol_tables.proofs.Orders.{Ordered, write_ordered}
 use Rattle.protocol_tables.proofs.Lifts.{in_post}
 use Rattle.protocol_tables.proofs.Room.{run_fits, of_post}
 use Rattle.protocol_tables.proofs.Within.{Within, within_more}
+use Rattle.protocol_tables.proofs.TableCases.{Ready, begun_by, Written, begins_it, refuses, written}
 use Rattle.frames.specs.Format.{Frame, Begun, Ended}
 use Rattle.frames.specs.Journal.{Records, encode_all}
 use Rattle.frames.specs.declared.role.Role.TheVariants as roles
@@ -27,7 +28,7 @@ use Rattle.protocol_files.specs.Nodes.{Node, opened}
 use Rattle.protocol_files.specs.System.{System, by_office, office_posts, office_stops, office_opened, Found, Writable}
 use Rattle.protocol_files.proofs.Disks.{one}
 use Rattle.protocol_files.proofs.WardenFiles.{warden_more}
-use Rattle.protocol_files.proofs.OfficeSteps.{Ready, begun_by, Written, begins_it, refuses, written, ready_writes, Like, alike, like_ready, like_stored, fresh_of, closed}
+use Rattle.protocol_files.proofs.OfficeSteps.{ready_writes, Like, alike, like_ready, like_stored, fresh_of, closed}
 use Rattle.protocol_files.proofs.OfficeFiles.{Stands, Waits, idle, starts, stops, start_fits, OfficeFile, OfficeUp, OfficeShows, sure_file, begun_means, ended_means, now_file, office_finds}
 use Rattle.protocol_files.proofs.OfficeFiles as O
 use Rattle.protocol_files.proofs.OfficeStands.{stands_ready, stands_begun, stands_closed, stands_forgetful}

@@ -15,8 +15,9 @@ use Rattle.protocol.proofs.Packets.{at_each}
 use Rattle.protocol_tables.specs.Keep.{store}
 use Rattle.protocol_tables.specs.Office.{Office}
 use Rattle.protocol_tables.specs.System.{forgetful}
+use Rattle.protocol_tables.proofs.TableCases.{Ready, begun_by}
 use Rattle.protocol_files.specs.System.{ends_in, has_ended, ended_news}
-use Rattle.protocol_files.proofs.OfficeSteps.{Ready, begun_by, room_alike, closed}
+use Rattle.protocol_files.proofs.OfficeSteps.{room_alike, closed}
 use Rattle.protocol_files.proofs.OfficeFiles.{DeskStands, Stands, desk_more}
 use Rattle.protocol_files.proofs.Shown.{LogFits}
 

@@ -1,42 +1,18 @@
 -- What the office does when it is told to write and when a message comes, and which offices do the same.
 -- Assumes nothing.
-use Rattle.std.proofs.Common.{◌≡◌, ℕ, suc, true, false, ◌&&◌, eqb, leb, List, [], ◌∷◌, ◌++◌, sym, refl, ap, ◌∙◌}
+use Rattle.std.proofs.Common.{◌≡◌, ℕ, suc, true, false, ◌&&◌, eqb, List, [], ◌∷◌, ◌++◌, sym, refl, ap, ◌∙◌}
 use Rattle.std.proofs.lemmas.Bool.{cond_both, cond-true, eq-eqb}
 use Rattle.register.specs.Count.{put}
 use Rattle.register.proofs.Put.{put_all, put_both, put_idle}
-use Rattle.protocol.specs.Step.{Step, Refused}
-use Rattle.protocol.specs.Office.{OfficeDone, Desk, last_edition, begin_writing, close}
-use Rattle.protocol.proofs.PartyCases.{WriteCase, write_begins, write_refused, write_case}
+use Rattle.protocol.specs.Office.{Desk, begin_writing, close}
 use Rattle.protocol_tables.specs.Keep.{Keep, room, store}
-use Rattle.protocol_tables.specs.Office.{Office, OfficeStep, empty_office, leave, without, keep_writing, office_writes, close_writing}
+use Rattle.protocol_tables.specs.Office.{Office, OfficeStep, empty_office, without, office_writes, close_writing}
 use Rattle.protocol_tables.proofs.Orders.{Ordered, empty_ordered, write_ordered, ended_ordered}
+use Rattle.protocol_tables.proofs.TableCases.{Ready, begun_by, Written, begins_it, refuses, written}
 use Rattle.frames.specs.Format.{Frame, Sent, Begun, Ended}
 use Rattle.protocol_files.specs.Records.{office_replays, office_replays_all, office_of}
 
 -- TOLD TO WRITE
--- a writing of k may begin
-pub record Ready (a : Office) (k : ℕ) : Type 0 where
-  pub idle : (a.desks.at k).busy ≡ false
-  pub low : leb last_edition (a.desks.at k).now.edition ≡ false
-  pub roomy : room k a.desks ≡ true
-
--- it begins, by that step
-abbrev pub begun_by : Office → (k : ℕ) → Step Desk OfficeDone → OfficeStep
-begun_by a k st =
-    record { next = record { desks = store k st.next a.desks; under_way = a.under_way ++ (k ∷ []) }; letters = record { note = k; sends = st.sends } ∷ []; outcome = st.outcome }
-
-pub data Written (a : Office) (k : ℕ) (v : List ℕ) : OfficeStep → Type 0 where
-  begins_it : Ready a k → Written a k v (begun_by a k (begin_writing (a.desks.at k) v))
-  refuses : (m : ℕ) → Written a k v (leave a (Refused m))
-
-pub written : (a : Office) (k : ℕ) (v : List ℕ) → Written a k v (office_writes a k v)
-written a k v = go (write_case (a.desks.at k) v)
-  where
-    go : {st : Step Desk OfficeDone} → WriteCase (a.desks.at k) v st → Written a k v (keep_writing a k st)
-    go (write_begins idle low) =
-        cond_both (room k a.desks) (begun_by a k (begin_writing (a.desks.at k) v)) (leave a (Refused 6)) (Written a k v) (λ roomy. begins_it (record { idle = idle; low = low; roomy = roomy })) (λ _. refuses 6)
-    go write_refused = refuses 5
-
 -- an office whose desk has the same note, and that is ready, begins by the same step
 pub ready_writes : (a : Office) (k : ℕ) (v : List ℕ) (d : Desk) → Ready a k → (a.desks.at k).now ≡ d.now → office_writes a k v ≡ begun_by a k (begin_writing d v)
 ready_writes a k v d h now = rw (h.idle, h.low, h.roomy, now)

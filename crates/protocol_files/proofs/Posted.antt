@@ -22,7 +22,7 @@ use Rattle.protocol_tables.specs.System.{System, by_office, by_reader, Move, wri
 use Rattle.protocol_tables.proofs.Refines.{refines, run_kept}
 use Rattle.protocol_tables.proofs.Room.{brings, plain_sends, warden_plain, Asks, asks_plain, round_asks, tick_asks, reader_asks, of_post}
 use Rattle.protocol_tables.proofs.Within.{Within}
-use Rattle.protocol_files.proofs.OfficeSteps.{Written, begins_it, refuses, written}
+use Rattle.protocol_tables.proofs.TableCases.{Written, begins_it, refuses, written}
 
 -- each note that was sent to be taken has begun
 abbrev pub Posted : List Packet → Log → Type 0

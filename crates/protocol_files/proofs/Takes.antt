@@ -2,26 +2,22 @@
 -- Assumes nothing.
 use Rattle.std.proofs.Common.{◌≡◌, ℕ, zero, suc, ◌<◌, true, false, ◌⊎◌, List, [], ◌∷◌, ◌++◌, take, refl, ap, ◌∙◌, inl, inr, ⊎_elim, arith}
 use mathlib.Core.List.{Memᴰ}
-use Rattle.std.proofs.lemmas.Bool.{cond_both}
 use Rattle.register.specs.Note.{Note}
 use Rattle.register.proofs.Put.{put_at}
 use Rattle.protocol.specs.Message.{office, Message, Take, Took, Ask, Told, Packet, Sends, One, Each}
 use Rattle.protocol.specs.Message as words
-use Rattle.protocol.specs.Step.{Outcome, Done, Refused, Step, refuse}
-use Rattle.protocol.specs.Warden.{WardenDone, taken, answered}
-use Rattle.protocol.proofs.PartyCases.{WardenCase, warden_takes, warden_had, warden_answers, warden_passes, warden_case}
+use Rattle.protocol.specs.Step.{Outcome, Done, Refused, Step}
+use Rattle.protocol.specs.Warden.{WardenDone, answered}
 use Rattle.protocol_tables.specs.Keep.{Keep, room, store}
-use Rattle.protocol_tables.specs.Warden.{takes, keep_note, warden_keeps}
+use Rattle.protocol_tables.specs.Warden.{takes, warden_keeps}
 use Rattle.protocol_tables.proofs.Within.{Within}
+use Rattle.protocol_tables.proofs.TableCases.{took_step, KeepCase, keep_takes, keep_full, keep_had, keep_answers, keep_passes, keep_case}
 use Rattle.frames.specs.Format.{Frame, Sent, Fits}
 use Rattle.frames.specs.Journal.{Records}
 use Rattle.frames.specs.declared.role.Role.TheVariants as roles
 use Rattle.protocol_files.specs.Records.{warden_replays, warden_replays_all}
 
 -- WHAT A WARDEN DOES WITH A MESSAGE: it takes a note, or it has what it had
-abbrev pub took_step : (k : ℕ) → Note → Keep Note → Step (Keep Note) WardenDone
-took_step k x d = record { next = store k x d; sends = One office (Took x.edition); outcome = Done taken }
-
 -- of what it has of k, it tells nothing else
 abbrev pub Tells : Keep Note → (k : ℕ) → Sends → Type 0
 Tells d k words.Nothing = Unit {0}
@@ -36,13 +32,14 @@ pub data Heard (d : Keep Note) (from k : ℕ) : Message → Step (Keep Note) War
   other : {m : Message} (sends : Sends) (out : Outcome WardenDone) → takes out ≡ false → Tells d k sends → Heard d from k m (record { next = d; sends = sends; outcome = out })
 
 pub heard : (d : Keep Note) (from k : ℕ) (m : Message) → Heard d from k m (warden_keeps d from k m)
-heard d from k m = go (warden_case (d.at k) from m)
+heard d from k m = go (keep_case d from k m)
   where
-    go : {m : Message} {o : Step Note WardenDone} → WardenCase (d.at k) from m o → Heard d from k m (keep_note d k o)
-    go (warden_takes x own late) = cond_both (room k d) (took_step k x d) (refuse d 6) (Heard d from k (Take x)) (λ roomy. took x own late roomy) (λ _. other words.Nothing (Refused 6) refl tt)
-    go (warden_had x own early) = other (One office (Took x.edition)) (Refused 2) refl (took_tells d k x.edition)
-    go (warden_answers r) = other (One from (Told r (d.at k))) (Done answered) refl (λ r' x is. cc)
-    go warden_passes = other words.Nothing (Refused 1) refl tt
+    go : {m : Message} {o : Step (Keep Note) WardenDone} → KeepCase d from k m o → Heard d from k m o
+    go (keep_takes x own late roomy) = took x own late roomy
+    go (keep_full x own full) = other words.Nothing (Refused 6) refl tt
+    go (keep_had x) = other (One office (Took x.edition)) (Refused 2) refl (took_tells d k x.edition)
+    go (keep_answers r) = other (One from (Told r (d.at k))) (Done answered) refl (λ r' x is. cc)
+    go keep_passes = other words.Nothing (Refused 1) refl tt
 
 -- f is what the office sent to i, and i takes it
 pub record Taking (i : ℕ) (bag : List Packet) (d : Keep Note) (f : Frame) : Type 0 where

@@ -12,6 +12,7 @@ use Rattle.protocol.specs.Warden.{WardenDone}
 use Rattle.protocol_tables.specs.Keep.{Keep, empty}
 use Rattle.protocol_tables.specs.Warden.{takes, warden_keeps}
 use Rattle.protocol_tables.proofs.Within.{Within}
+use Rattle.protocol_tables.proofs.TableCases.{took_step}
 use Rattle.frames.specs.Format.{Frame, Sent, Fits}
 use Rattle.frames.specs.Journal.{Records, encode_all}
 use Rattle.frames.specs.declared.role.Role.TheVariants as roles
@@ -22,7 +23,7 @@ use Rattle.protocol_files.specs.Nodes.{Node, Warden, new_warden, with_disk, fall
 use Rattle.protocol_files.specs.System.{Found, Anew}
 use Rattle.protocol_files.proofs.Journals.{Has, sure_only, keeps, known, finds}
 use Rattle.protocol_files.proofs.Disks.{Each, one, first, each_cut, each_more, each_same}
-use Rattle.protocol_files.proofs.Takes.{took_step, Heard, took, other, heard, Taken, replays-++, taken-++, taken_take, taken_more, taken_records}
+use Rattle.protocol_files.proofs.Takes.{Heard, took, other, heard, Taken, replays-++, taken-++, taken_take, taken_more, taken_records}
 
 -- what came to a warden since it had d: what it has now, what it wrote, and what it answers
 pub data Batch (n i : ℕ) (bag : List Packet) (d : Keep Note) : Keep Note → List Frame → List Packet → Type 0 where

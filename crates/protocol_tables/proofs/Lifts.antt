@@ -27,6 +27,7 @@ use Rattle.protocol_tables.specs.System.{System, by_office, by_warden, by_reader
 use Rattle.protocol_tables.specs.System as T
 use Rattle.protocol_tables.specs.Progress.{fair, Way, here, next, WritingEnds, RoundEnds, ReadingEnds, ReadingAnswers}
 use Rattle.protocol_tables.proofs.Within.{Within, within_more}
+use Rattle.protocol_tables.proofs.TableCases.{took_step}
 use Rattle.protocol_tables.proofs.Refines.{run_kept, refines}
 use Rattle.protocol_tables.proofs.Room.{brings, roomy, run_fits}
 
@@ -96,7 +97,7 @@ module _ (n f : ℕ) (liar : ℕ → Bool) where
       where
         go : {m : Message} {o : Step Note WardenDone} → WardenCase ((s.warden i).at k) from m o → (brings m ≡ true → from ≡ office → room k (s.warden i) ≡ true) → Covers (plain.by_warden n i k o (over bag s)) (by_warden n i k (keep_note (s.warden i) k o) s)
         go (warden_takes x own late) fits =
-            cond_both (room k (s.warden i)) (record { next = store k x (s.warden i); sends = One office (Took x.edition); outcome = Done taken }) (refuse (s.warden i) 6) (λ (o : Step (Keep Note) WardenDone). Covers (plain.by_warden n i k (takes_note x) (over bag s)) (by_warden n i k o s))
+            cond_both (room k (s.warden i)) (took_step k x (s.warden i)) (refuse (s.warden i) 6) (λ (o : Step (Keep Note) WardenDone). Covers (plain.by_warden n i k (takes_note x) (over bag s)) (by_warden n i k o s))
             (λ _. record { office = refl; warden = put_map (λ (d : Keep Note). d.at) i (store k x (s.warden i)) s.warden; reader = refl; log = ap (λ (z : Note). plain.warden_event i k z (Done taken) ++ s.log) (sym (put_same k x (s.warden i).at)); bag = within_more (packets n i k (One office (Took x.edition))) within })
             (λ full. cc (fits refl own))
         go (warden_had x own early) fits = unchanged i k (packets n i k (One office (Took x.edition)))

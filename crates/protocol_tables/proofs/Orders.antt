@@ -6,11 +6,12 @@ use mathlib.Core.List.{Memᴰ}
 use Rattle.std.proofs.lemmas.Bool.{cond_both, eqb-true}
 use Rattle.register.proofs.Put.{put_at, put_all}
 use Rattle.protocol.specs.Message.{Message}
-use Rattle.protocol.specs.Step.{Step, Refused}
+use Rattle.protocol.specs.Step.{Step}
 use Rattle.protocol.specs.Office.{OfficeDone, Desk, begin_writing, acknowledge, close}
-use Rattle.protocol.proofs.PartyCases.{WriteCase, write_begins, write_refused, write_case, OfficeCase, took_counts, took_ends, office_passes, office_case}
-use Rattle.protocol_tables.specs.Keep.{room, store}
-use Rattle.protocol_tables.specs.Office.{Office, OfficeStep, empty_office, leave, without, keep_writing, office_writes, keep_counting, office_hears}
+use Rattle.protocol.proofs.PartyCases.{OfficeCase, took_counts, took_ends, office_passes, office_case}
+use Rattle.protocol_tables.specs.Keep.{store}
+use Rattle.protocol_tables.specs.Office.{Office, OfficeStep, empty_office, without, office_writes, keep_counting, office_hears}
+use Rattle.protocol_tables.proofs.TableCases.{Written, begins_it, refuses, written}
 
 pub record Ordered (o : Office) : Type 0 where
   pub busy : (k : ℕ) → Memᴰ k o.under_way → (o.desks.at k).busy ≡ true
@@ -69,11 +70,11 @@ started o k v =
 
 module _ (o : Office) (h : Ordered o) (k : ℕ) where
   pub write_ordered : (v : List ℕ) → Ordered (office_writes o k v).next
-  write_ordered v = go (write_case (o.desks.at k) v)
+  write_ordered v = go (written o k v)
     where
-      go : {st : Step Desk OfficeDone} → WriteCase (o.desks.at k) v st → Ordered (keep_writing o k st).next
-      go (write_begins idle low) = cond_both (room k o.desks) (started o k v) (leave o (Refused 6)) (λ (s : OfficeStep). Ordered s.next) (λ _. begun_ordered h k (begin_writing (o.desks.at k) v).next refl) (λ _. h)
-      go write_refused = h
+      go : {s : OfficeStep} → Written o k v s → Ordered s.next
+      go (begins_it ready) = begun_ordered h k (begin_writing (o.desks.at k) v).next refl
+      go (refuses m) = h
 
   pub hear_ordered : (n f from : ℕ) (m : Message) → Ordered (office_hears n f o from k m).next
   hear_ordered n f from m = go (office_case n f (o.desks.at k) from m)

@@ -19,6 +19,7 @@ use Rattle.protocol_tables.specs.Warden.{keep_note, warden_keeps}
 use Rattle.protocol_tables.specs.Office.{OfficeStep, post, leave, keep_writing, office_writes, keep_counting, office_hears, again}
 use Rattle.protocol_tables.specs.System.{System, by_office, by_warden, unbounded, Move, writes, office_hear, warden_hear, reads, reader_ticks, reader_hears, office_restarts, reader_restarts, lies, loses, Run, begin, then, Refines, Holds}
 use Rattle.protocol_tables.specs.System as T
+use Rattle.protocol_tables.proofs.TableCases.{took_step}
 use Rattle.protocol_tables.proofs.Orders.{Ordered, empty_ordered, started, write_ordered, hear_ordered}
 
 module _ (n f : ℕ) (liar : ℕ → Bool) (s : System) where
@@ -81,7 +82,7 @@ module _ (n f : ℕ) (liar : ℕ → Bool) (s : System) where
 
     took_plain : (x : Note) → Plain (unbounded s) → After (takes_note x)
     took_plain x run on =
-        cond_both (room k (s.warden i)) (record { next = store k x (s.warden i); sends = One office (Took x.edition); outcome = Done taken }) (refuse (s.warden i) 6) (λ (o : Step (Keep Note) WardenDone). Plain (unbounded (by_warden n i k o s)))
+        cond_both (room k (s.warden i)) (took_step k x (s.warden i)) (refuse (s.warden i) 6) (λ (o : Step (Keep Note) WardenDone). Plain (unbounded (by_warden n i k o s)))
         (λ _. subst (λ (w : ℕ → ℕ → Note). Wardens w (packets n i k (One office (Took x.edition)) ++ s.bag) (plain.warden_event i k (put k x (s.warden i).at k) (Done taken) ++ s.log)) (put_map (λ (d : Keep Note). d.at) i (store k x (s.warden i)) s.warden) (rw (put_same k x (s.warden i).at) on))
         (λ _. unchanged_plain run)
 

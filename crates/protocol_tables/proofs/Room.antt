@@ -11,20 +11,20 @@ use Rattle.register.specs.Rule.{Reading, pick}
 use Rattle.register.proofs.Put.{put_all, put_both, put_stay}
 use Rattle.protocol.specs.Message.{office, Message, Take, Took, Ask, Told, Packet, Sends, One, Each, packets}
 use Rattle.protocol.specs.Message as words
-use Rattle.protocol.specs.Step.{Step, Done, Refused, refuse}
-use Rattle.protocol.specs.Warden.{WardenDone, taken}
+use Rattle.protocol.specs.Step.{Step, Refused}
+use Rattle.protocol.specs.Warden.{WardenDone}
 use Rattle.protocol.specs.Office.{OfficeDone, Desk, empty_desk, begin_writing, acknowledge, close, office_on}
 use Rattle.protocol.specs.Reader.{ReaderDone, asked, Reader, more_rounds, begin_round, read_on, reader_tick, hear, reader_on}
 use Rattle.protocol.specs.Log as L
 use Rattle.protocol.proofs.Packets.{of_each}
-use Rattle.protocol.proofs.PartyCases.{WardenCase, warden_takes, warden_had, warden_answers, warden_passes, warden_case, WriteCase, write_begins, write_refused, write_case, OfficeCase, took_counts, took_ends, office_passes, office_case, RoundCase, round_opens, round_refused, round_case, TickCase, tick_opens, tick_refused, tick_again, tick_idle, tick_case, DecideCase, decide_reads, decide_waits, decide_doubts, decide_case, ReaderCase, told_counts, told_decides, reader_passes, reader_case}
+use Rattle.protocol.proofs.PartyCases.{OfficeCase, took_counts, took_ends, office_passes, office_case, RoundCase, round_opens, round_refused, round_case, TickCase, tick_opens, tick_refused, tick_again, tick_idle, tick_case, DecideCase, decide_reads, decide_waits, decide_doubts, decide_case, ReaderCase, told_counts, told_decides, reader_passes, reader_case}
 use Rattle.protocol_tables.specs.Keep.{most, Keep, empty, room, store}
-use Rattle.protocol_tables.specs.Warden.{keep_note, warden_keeps}
-use Rattle.protocol_tables.specs.Office.{Office, Letter, OfficeStep, post, leave, without, counts, ends, keep_writing, office_writes, keep_counting, office_hears, again, office_ticks}
+use Rattle.protocol_tables.specs.Warden.{warden_keeps}
+use Rattle.protocol_tables.specs.Office.{Office, Letter, OfficeStep, post, leave, without, counts, ends, office_writes, keep_counting, office_hears, again, office_ticks}
 use Rattle.protocol_tables.specs.System.{System, Move, writes, office_tick, office_hear, warden_hear, reads, reader_ticks, reader_hears, office_restarts, reader_restarts, lies, loses, Run, begin, then}
 use Rattle.protocol_tables.specs.System as T
 use Rattle.protocol_tables.specs.Progress.{NeverFull}
-use Rattle.protocol_tables.proofs.Orders.{started}
+use Rattle.protocol_tables.proofs.TableCases.{KeepCase, keep_takes, keep_full, keep_had, keep_answers, keep_passes, keep_case, Written, begins_it, refuses, written}
 use Rattle.protocol_tables.proofs.Refines.{run_kept}
 use Rattle.protocol_tables.proofs.Numbers.{Counted, empty_counted, store_counted, fewer}
 
@@ -54,14 +54,11 @@ storing {o} h k d ks roomy =
     }
 
 pub write_goes : {o : Office} → OfficeFits o → (k : ℕ) (v : List ℕ) → OfficeGoes o (office_writes o k v).next
-write_goes {o} h k v = go (write_case d v)
+write_goes {o} h k v = go (written o k v)
   where
-    d : Desk
-    d = o.desks.at k
-
-    go : {st : Step Desk OfficeDone} → WriteCase d v st → OfficeGoes o (keep_writing o k st).next
-    go (write_begins idle low) = cond_both (room k o.desks) (started o k v) (leave o (Refused 6)) (λ (s : OfficeStep). OfficeGoes o s.next) (λ roomy. storing h k (begin_writing d v).next (o.under_way ++ (k ∷ [])) roomy) (λ _. stays h)
-    go write_refused = stays h
+    go : {s : OfficeStep} → Written o k v s → OfficeGoes o s.next
+    go (begins_it ready) = storing h k (begin_writing (o.desks.at k) v).next (o.under_way ++ (k ∷ [])) ready.roomy
+    go (refuses m) = stays h
 
 pub hear_goes : {o : Office} → OfficeFits o → (n f from k : ℕ) (m : Message) → OfficeGoes o (office_hears n f o from k m).next
 hear_goes {o} h n f from k m = go (office_case n f d from m)
@@ -94,13 +91,14 @@ plain_sends n from k (One to x) so p m e = clash (sym so ∙ (rw (Memᴰ.eq_of_s
 plain_sends n from k (Each x) so p m e = let (i, l, is) = of_each n (λ i. record { from = from; to = i; note = k; message = x }) p m in clash (sym so ∙ (rw is at e))
 
 pub warden_plain : (d : Keep Note) (from k : ℕ) (m : Message) → Plain (warden_keeps d from k m).sends
-warden_plain d from k m = go (warden_case (d.at k) from m)
+warden_plain d from k m = go (keep_case d from k m)
   where
-    go : {m : Message} {o : Step Note WardenDone} → WardenCase (d.at k) from m o → Plain (keep_note d k o).sends
-    go (warden_takes x own late) = cond_both (room k d) (record { next = store k x d; sends = One office (Took x.edition); outcome = Done taken }) (refuse d 6) (λ (o : Step (Keep Note) WardenDone). Plain o.sends) (λ _. refl) (λ _. tt)
-    go (warden_had x own early) = refl
-    go (warden_answers r) = refl
-    go warden_passes = tt
+    go : {m : Message} {o : Step (Keep Note) WardenDone} → KeepCase d from k m o → Plain o.sends
+    go (keep_takes x own late roomy) = refl
+    go (keep_full x own full) = tt
+    go (keep_had x) = refl
+    go (keep_answers r) = refl
+    go keep_passes = tt
 
 -- a reader sends nothing, or asks each warden
 abbrev pub Asks : Sends → Type 0
@@ -200,7 +198,7 @@ abbrev Had : System → Keep Note → Type 0
 Had s d = Counted d × ((k : ℕ) → d.had k ≡ true → s.office.desks.had k ≡ true)
 
 keeps : (s : System) (i from k : ℕ) (m : Message) → Fits s → (brings m ≡ true → from ≡ office → s.office.desks.had k ≡ true) → Had s (warden_keeps (s.warden i) from k m).next
-keeps s i from k m h = go (warden_case (d.at k) from m)
+keeps s i from k m h = go (keep_case d from k m)
   where
     d : Keep Note
     d = s.warden i
@@ -208,30 +206,22 @@ keeps s i from k m h = go (warden_case (d.at k) from m)
     same : Had s d
     same = (h.notes i, h.within i)
 
-    go : {m : Message} {o : Step Note WardenDone} → WardenCase (d.at k) from m o → (brings m ≡ true → from ≡ office → s.office.desks.had k ≡ true) → Had s (keep_note d k o).next
-    go (warden_takes x own late) known =
-        cond_both (room k d) (record { next = store k x d; sends = One office (Took x.edition); outcome = Done taken }) (refuse d 6) (λ (o : Step (Keep Note) WardenDone). Had s o.next)
-        (λ _. (store_counted (h.notes i) k x, put_all (λ z b. b ≡ true → s.office.desks.had z ≡ true) k true d.had (λ _. known refl own) (h.within i)))
-        (λ _. same)
-    go (warden_had x own early) known = same
-    go (warden_answers r) known = same
-    go warden_passes known = same
+    go : {m : Message} {o : Step (Keep Note) WardenDone} → KeepCase d from k m o → (brings m ≡ true → from ≡ office → s.office.desks.had k ≡ true) → Had s o.next
+    go (keep_takes x own late roomy) known = (store_counted (h.notes i) k x, put_all (λ z b. b ≡ true → s.office.desks.had z ≡ true) k true d.had (λ _. known refl own) (h.within i))
+    go (keep_full x own full) known = same
+    go (keep_had x) known = same
+    go (keep_answers r) known = same
+    go keep_passes known = same
 
 written_had : (s : System) (n k : ℕ) (v : List ℕ) → (l : Letter) → Memᴰ l (office_writes s.office k v).letters → (p : Packet) → Memᴰ p (packets n office l.note l.sends) → (office_writes s.office k v).next.desks.had p.note ≡ true
-written_had s n k v = go (write_case d v)
+written_had s n k v = go (written s.office k v)
   where
-    d : Desk
-    d = s.office.desks.at k
-
     Has : OfficeStep → Type 0
     Has o = (l : Letter) → Memᴰ l o.letters → (p : Packet) → Memᴰ p (packets n office l.note l.sends) → o.next.desks.had p.note ≡ true
 
-    go : {st : Step Desk OfficeDone} → WriteCase d v st → Has (keep_writing s.office k st)
-    go (write_begins idle low) =
-        cond_both (room k s.office.desks) (started s.office k v) (leave s.office (Refused 6)) Has
-        (λ _ l m p at. rw (eq-eqb p.note k (note_of_packet n k (Take (begin_writing d v).next.now) p (rw (Memᴰ.eq_of_singleton m) at at))))
-        (λ _ l m. absurd (Memᴰ.not-nil m))
-    go write_refused = λ l m. absurd (Memᴰ.not-nil m)
+    go : {o : OfficeStep} → Written s.office k v o → Has o
+    go (begins_it ready) = λ l m p at. rw (eq-eqb p.note k (note_of_packet n k (Take (begin_writing (s.office.desks.at k) v).next.now) p (rw (Memᴰ.eq_of_singleton m) at at)))
+    go (refuses e) = λ l m. absurd (Memᴰ.not-nil m)
 
 -- when something comes to the office, it sends nothing
 pub no_letters : (o : Office) (k : ℕ) (st : Step Desk OfficeDone) → (keep_counting o k st).letters ≡ []
@@ -286,16 +276,14 @@ roomy s i k h has =
     (cases_Bool ((s.warden i).had k))
 
 pub never_full : NeverFull
-never_full n f liar s run i p m = go (warden_case ((s.warden i).at p.note) p.from p.message) (h.posted p m)
+never_full n f liar s run i p m = go (keep_case (s.warden i) p.from p.note p.message) (h.posted p m)
   where
     h : Fits s
     h = run_fits n f liar run
 
-    go : {m : Message} {o : Step Note WardenDone} → WardenCase ((s.warden i).at p.note) p.from m o → (brings m ≡ true → p.from ≡ office → s.office.desks.had p.note ≡ true) → (keep_note (s.warden i) p.note o).outcome ≡ Refused 6 → ⊥
-    go (warden_takes x own late) known =
-        cond_both (room p.note (s.warden i)) (record { next = store p.note x (s.warden i); sends = One office (Took x.edition); outcome = Done taken }) (refuse (s.warden i) 6) (λ (o : Step (Keep Note) WardenDone). o.outcome ≡ Refused 6 → ⊥)
-        (λ _ e. cc)
-        (λ full _. cc (roomy s i p.note h (known refl own)))
-    go (warden_had x own early) known = λ e. cc
-    go (warden_answers r) known = λ e. cc
-    go warden_passes known = λ e. cc
+    go : {m : Message} {o : Step (Keep Note) WardenDone} → KeepCase (s.warden i) p.from p.note m o → (brings m ≡ true → p.from ≡ office → s.office.desks.had p.note ≡ true) → o.outcome ≡ Refused 6 → ⊥
+    go (keep_takes x own late roomy) known e = cc
+    go (keep_full x own full) known e = cc (roomy s i p.note h (known refl own))
+    go (keep_had x) known e = cc
+    go (keep_answers r) known e = cc
+    go keep_passes known e = cc
