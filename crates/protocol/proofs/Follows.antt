@@ -1,15 +1,14 @@
 -- Every run is a run of the model, for each note and each reader; so its log is good.
 -- Assumes nothing.
-use Rattle.std.proofs.Common.{◌≡◌, ℕ, ◌*◌, ◌<◌, Bool, true, [], ◌∷◌, ◌++◌, sym, refl, subst, inl, ⊎_elim, arith}
+use Rattle.std.proofs.Common.{◌≡◌, ℕ, ◌*◌, ◌<◌, Bool, true, [], ◌∷◌, ◌++◌, refl, subst, inl, ⊎_elim, arith}
 use mathlib.Core.Path.{fun_ext}
 use mathlib.Core.List.Memᴰ
-use borrow.Author.Tests.{clash}
-use Rattle.std.proofs.lemmas.Bool.{cases_eq, both_ways, ne_eqb, eq-eqb}
+use Rattle.std.proofs.lemmas.Bool.{cases_eq, both_ways}
 use Rattle.register.specs.Count.{put}
 use Rattle.register.specs.Note.{Note, none}
 use Rattle.register.specs.Model.{World, start}
 use Rattle.register.specs.Model as M
-use Rattle.register.proofs.Put.{put_all, put_both, put_same}
+use Rattle.register.proofs.Put.{put_at, put_all, put_map}
 use Rattle.protocol.specs.Message.{office, Message, Take, Took, Ask, Told, packets}
 use Rattle.protocol.specs.Step.{Step}
 use Rattle.protocol.specs.Warden.{WardenDone, warden_on}
@@ -25,22 +24,16 @@ use Rattle.protocol.proofs.OfficeSteps as O
 use Rattle.protocol.proofs.WardenSteps as W
 use Rattle.protocol.proofs.ReaderSteps as R
 
-put_at : {A : Type 0} (P : A → Type 0) (k k' : ℕ) (a : A) (g : ℕ → A) → (k ≡ k' → P a) → ((k ≡ k' → ⊥) → P (g k)) → P (put k' a g k)
-put_at P k k' a g here there = ⊎_elim (λ e. rw (eq-eqb k k' e) (here e)) (λ apart. rw (ne_eqb k k' apart) (there apart)) (cases_eq k k')
-
 -- what is seen of one note after a warden has changed it, or another, or lost all
 store_here : (i k : ℕ) (y : Note) (c : ℕ → ℕ → Note) → put i y (λ i. c i k) ≡ (λ i'. put i (put k y (c i)) c i' k)
-store_here i k y c = fun_ext (put_both (λ _ (b : Note) (g : ℕ → Note). b ≡ g k) i y (put k y (c i)) (λ i. c i k) c (sym (put_same k y (c i))) (λ _. refl))
+store_here i k y c = fun_ext (λ j. grind arith)
 
 store_there : (i k k' : ℕ) (y : Note) (c : ℕ → ℕ → Note) → (k ≡ k' → ⊥) → ◌≡◌ {A = ℕ → Note} (λ i. c i k) (λ i'. put i (put k' y (c i)) c i' k)
-store_there i k k' y c apart = fun_ext (put_all (λ i (g : ℕ → Note). c i k ≡ g k) i (put k' y (c i)) c (rw (ne_eqb k k' apart)) (λ _. refl))
-
-store_lost : (i k : ℕ) (c : ℕ → ℕ → Note) → put i none (λ i. c i k) ≡ (λ i'. put i (λ k. none) c i' k)
-store_lost i k c = fun_ext (put_both (λ _ (b : Note) (g : ℕ → Note). b ≡ g k) i none (λ k. none) (λ i. c i k) c refl (λ _. refl))
+store_there i k k' y c apart = fun_ext (λ j. grind arith)
 
 nowhere : {P : Type 0} (later l : Log) (x : Event) → [] ≡ later ++ (x ∷ l) → P
-nowhere [] l x e = let z : ◌≡◌ {A = ℕ} 0 1 = cc in absurd (omega arith)
-nowhere (y ∷ later) l x e = let z : ◌≡◌ {A = ℕ} 0 1 = cc in absurd (omega arith)
+nowhere [] l x e = cc
+nowhere (y ∷ later) l x e = cc
 
 module _ (n f : ℕ) (liar : ℕ → Bool) where
   -- what every run keeps
@@ -140,7 +133,7 @@ module _ (n f : ℕ) (liar : ℕ → Bool) where
         record { followed = λ k j. W.lying n f liar k j p (lie_says k j p.from p.to p.note p.message so other) (h.followed k j); desks = h.desks; readers = h.readers; good = h.good }
     kept_by {s} (loses i) h =
         record {
-          followed = λ k j. subst (λ (c : ℕ → Note). Followed n f liar k j (record { desk = s.office k; warden = c; reader = s.reader j; bag = s.bag; log = Lost i ∷ s.log })) (store_lost i k s.warden) (W.losing n f liar k j i (h.followed k j));
+          followed = λ k j. subst (λ (c : ℕ → Note). Followed n f liar k j (record { desk = s.office k; warden = c; reader = s.reader j; bag = s.bag; log = Lost i ∷ s.log })) (put_map (λ (g : ℕ → Note). g k) i (λ k. none) s.warden) (W.losing n f liar k j i (h.followed k j));
           desks = h.desks;
           readers = h.readers;
           good = good_more n f liar s.log (Lost i) tt h.good;
@@ -153,13 +146,13 @@ module _ (n f : ℕ) (liar : ℕ → Bool) where
             start,
             M.begin,
             record {
-              desk = record { edition = refl; value = refl; idle = λ _. refl; busy = λ e. absurd (clash e); acks = λ i e. absurd (clash e); begun = λ e one below. absurd (omega arith); most = omega arith; some = λ e v m. absurd (Memᴰ.not-nil m); done = λ e one below. absurd (omega arith); ended = omega arith };
+              desk = record { edition = refl; value = refl; idle = λ _. refl; busy = λ e. cc; acks = λ i e. cc; begun = λ e one below. absurd (omega arith); most = omega arith; some = λ e v m. absurd (Memᴰ.not-nil m); done = λ e one below. absurd (omega arith); ended = omega arith };
               warden = λ i. record { store = refl; held = omega arith; high = refl };
-              reader = record { shut = λ r l. refl; now = λ e _. absurd (clash e); reads = λ e _. absurd (clash e); left = λ e _. absurd (clash e) };
+              reader = record { shut = λ r l. refl; now = λ e _. cc; reads = λ e _. cc; left = λ e _. cc };
               bag = λ p at. absurd (Memᴰ.not-nil at);
             },
           );
-          desks = λ k e. absurd (clash e);
+          desks = λ k e. cc;
           readers = λ j. sound_idle n f some (new_reader 0) refl;
           good = λ later l x e. nowhere later l x e;
         }

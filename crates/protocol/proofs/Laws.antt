@@ -1,6 +1,6 @@
 -- What follows from a good log alone.
 -- Assumes nothing.
-use Rattle.std.proofs.Common.{◌≡◌, ℕ, Bool, List, [], ◌∷◌, refl, ap, ⊎_elim, arith}
+use Rattle.std.proofs.Common.{◌≡◌, ℕ, Bool, List, [], ◌∷◌, refl, ap, arith}
 use mathlib.Core.List.Memᴰ
 use mathlib.Core.List.{Memᴰ}
 use Rattle.std.proofs.lemmas.Bool.{cond_both}
@@ -36,11 +36,10 @@ module _ (n f : ℕ) (liar : ℕ → Bool) where
 
   one_value : (k e : ℕ) (v v' : List ℕ) (l : Log) → Good n f liar l → Memᴰ (Began k e v) l → Memᴰ (Began k e v') l → v ≡ v'
   one_value k e v v' [] good m m' = absurd (Memᴰ.not-nil m)
-  one_value k e v v' (x ∷ l) good m m' =
-      ⊎_elim
-      (λ (is : Began k e v ≡ x). ⊎_elim (λ (is' : Began k e v' ≡ x). cc) (λ m'. absurd (above k e v l (rw (← is) at good) v' m')) (Memᴰ.cases_cons m'))
-      (λ m. ⊎_elim (λ (is' : Began k e v' ≡ x). absurd (above k e v' l (rw (← is') at good) v m)) (one_value k e v v' l (good_tail x l good) m) (Memᴰ.cases_cons m'))
-      (Memᴰ.cases_cons m)
+  one_value k e v v' (x ∷ l) good (Memᴰ.head is) (Memᴰ.head is') = cc
+  one_value k e v v' (x ∷ l) good (Memᴰ.head is) (Memᴰ.tail m') = absurd (above k e v l (rw (← is) at good) v' m')
+  one_value k e v v' (x ∷ l) good (Memᴰ.tail m) (Memᴰ.head is') = absurd (above k e v' l (rw (← is') at good) v m)
+  one_value k e v v' (x ∷ l) good (Memᴰ.tail m) (Memᴰ.tail m') = one_value k e v v' l (good_tail x l good) m m'
 
 pub good_logs : GoodLogs
 good_logs n f liar log good =

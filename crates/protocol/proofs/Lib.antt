@@ -1,5 +1,6 @@
 pub mod Logs
 pub mod Packets
+pub mod PartyCases
 pub mod Sound
 pub mod Shows
 pub mod OfficeSteps

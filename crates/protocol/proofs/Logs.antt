@@ -1,6 +1,6 @@
 -- What a log says after one more event.
 -- Assumes nothing.
-use Rattle.std.proofs.Common.{◌≡◌, ℕ, suc, ◌<◌, ◌≤◌, max, Bool, true, cond, eqb, List, [], ◌∷◌, ◌++◌, ap, ⊎_elim, arith}
+use Rattle.std.proofs.Common.{◌≡◌, ℕ, suc, ◌<◌, ◌≤◌, max, Bool, true, cond, eqb, List, [], ◌∷◌, ◌++◌, ap, arith}
 use mathlib.Core.List.Memᴰ
 use mathlib.Core.List.{Memᴰ}
 use Rattle.std.proofs.lemmas.Bool.{cond_both}
@@ -25,13 +25,8 @@ last_ended k (x ∷ l) = max (ended_in k x) (last_ended k l)
 
 pub ended_most : (k e : ℕ) (l : Log) → Memᴰ (Ended k e) l → e ≤ last_ended k l
 ended_most k e [] m = absurd (Memᴰ.not-nil m)
-ended_most k e (x ∷ l) m = ⊎_elim here (λ m. omega (arith, ended_most k e l m)) (Memᴰ.cases_cons m)
-  where
-    mine : e ≤ ended_in k (Ended k e)
-    mine = grind arith
-
-    here : Ended k e ≡ x → e ≤ last_ended k (x ∷ l)
-    here is = let same : ended_in k (Ended k e) ≡ ended_in k x = ap (ended_in k) is in omega (arith, mine)
+ended_most k e (x ∷ l) (Memᴰ.head is) = let same : ended_in k (Ended k e) ≡ ended_in k x = ap (ended_in k) is in grind arith
+ended_most k e (x ∷ l) (Memᴰ.tail m) = omega (arith, ended_most k e l m)
 
 -- one more than the edition of k that begins in it, else 0
 abbrev pub begun_in : (k : ℕ) → Event → ℕ
@@ -50,13 +45,8 @@ last_begun k (x ∷ l) = max (begun_in k x) (last_begun k l)
 
 pub begun_most : (k e : ℕ) (v : List ℕ) (l : Log) → Memᴰ (Began k e v) l → e < last_begun k l
 begun_most k e v [] m = absurd (Memᴰ.not-nil m)
-begun_most k e v (x ∷ l) m = ⊎_elim here (λ m. omega (arith, begun_most k e v l m)) (Memᴰ.cases_cons m)
-  where
-    mine : e < begun_in k (Began k e v)
-    mine = grind arith
-
-    here : Began k e v ≡ x → e < last_begun k (x ∷ l)
-    here is = let same : begun_in k (Began k e v) ≡ begun_in k x = ap (begun_in k) is in omega (arith, mine)
+begun_most k e v (x ∷ l) (Memᴰ.head is) = let same : begun_in k (Began k e v) ≡ begun_in k x = ap (begun_in k) is in grind arith
+begun_most k e v (x ∷ l) (Memᴰ.tail m) = omega (arith, begun_most k e v l m)
 
 pub not_begun : (k e : ℕ) (v : List ℕ) (x : Event) → begun_in k x ≡ 0 → Began k e v ≡ x → ⊥
 not_begun k e v x none is = let same : begun_in k (Began k e v) ≡ begun_in k x = ap (begun_in k) is in grind arith

@@ -1,28 +1,27 @@
 -- What the office does, the model can do; and what is seen of it is right.
 -- Assumes nothing.
-use Rattle.std.proofs.Common.{◌≡◌, ℕ, suc, ◌+◌, ◌<◌, ◌≤◌, Bool, true, false, not, ◌&&◌, ◌||◌, eqb, ltb, leb, List, [], ◌∷◌, sym, refl, ap, ◌∙◌, inl, inr, ⊎_elim, arith}
+use Rattle.std.proofs.Common.{◌≡◌, ℕ, suc, ◌+◌, ◌<◌, ◌≤◌, Bool, true, false, ◌||◌, leb, List, [], ◌∷◌, sym, refl, ap, ◌∙◌, inl, inr, ⊎_elim, arith}
 use mathlib.Core.List.Memᴰ
 use mathlib.Core.List.{Memᴰ}
-use borrow.Author.Tests.{clash}
-use Rattle.std.proofs.lemmas.Bool.{cond_both, and_parts, cases_eq, ne_eqb, eqb-true, leb-true, ltb-true}
+use Rattle.std.proofs.lemmas.Bool.{cond_both, cases_eq, ne_eqb, leb-true}
 use Rattle.register.specs.Count.{count, put}
 use Rattle.register.specs.Note.{Note}
-use Rattle.register.specs.Rule.{quorum}
 use Rattle.register.specs.Model.{acked, closed, World, new_office, Step}
 use Rattle.register.specs.Model as M
 use Rattle.register.proofs.Counting.{within}
 use Rattle.register.proofs.Put.{put_both, put_same}
-use Rattle.register.proofs.Keeps.{has, reach_kept}
-use Rattle.protocol.specs.Message.{office, Message, Take, Took, Ask, Told, Each, packets}
+use Rattle.register.proofs.Keeps.{Written, has, reach_kept}
+use Rattle.protocol.specs.Message.{office, Message, Take, Took, Each, packets}
 use Rattle.protocol.specs.Step.{quiet, refuse}
 use Rattle.protocol.specs.Step as steps
-use Rattle.protocol.specs.Office.{OfficeDone, no_writing, counted, ended, Desk, last_edition, begin_writing, write_on, resend, office_tick, acknowledge, close, settle, awaits_took, took_on, office_on}
+use Rattle.protocol.specs.Office.{OfficeDone, no_writing, counted, ended, Desk, begin_writing, write_on, resend, office_tick, acknowledge, close, office_on}
 use Rattle.protocol.specs.Log.{Began, Ended, high}
 use Rattle.protocol.specs.Promise.{RightBegan, RightEnded}
 use Rattle.protocol.specs.System.{office_event, forget}
 use Rattle.protocol.proofs.Logs.{begun_most, not_begun, ended_most, Rights}
 use Rattle.protocol.proofs.Packets.{of_each}
-use Rattle.protocol.proofs.Shows.{Written, Seen, also, desked, Followed, AllMean, more_mean, still_mean, nothing_sent, warden_log, reader_log, stays}
+use Rattle.protocol.proofs.PartyCases.{WriteCase, write_begins, write_refused, write_case, OfficeCase, took_counts, took_ends, office_passes, office_case}
+use Rattle.protocol.proofs.Shows.{Seen, also, desked, Followed, AllMean, more_mean, still_mean, nothing_sent, warden_log, reader_log, stays}
 
 module _ (n f : ℕ) (liar : ℕ → Bool) (k j : ℕ) where
   take_each : (w : World) (k' : ℕ) (x : Note) → (k' ≡ k → Written w.office x) → AllMean n f liar k j w (packets n office k' (Each (Take x)))
@@ -39,9 +38,9 @@ module _ (n f : ℕ) (liar : ℕ → Bool) (k j : ℕ) where
       desk = record {
         edition = ap suc h.desk.edition;
         value = value;
-        idle = λ e. absurd (clash (sym e));
+        idle = λ e. cc;
         busy = λ e. omega (arith, h.desk.idle idle);
-        acks = λ i e. absurd (clash e);
+        acks = λ i e. cc;
         begun = λ e one below. ⊎_elim (here e) (there e one below) (cases_eq e (suc w.office.edition));
         most = let old = h.desk.most in let is = h.desk.edition in grind arith;
         some = λ e u m. ⊎_elim (λ (is : Began k e u ≡ Began k (suc z.desk.now.edition) v). let same : e ≡ suc z.desk.now.edition = cc in omega arith) (h.desk.some e u) (Memᴰ.cases_cons m);
@@ -93,7 +92,7 @@ module _ (n f : ℕ) (liar : ℕ → Bool) (k j : ℕ) where
     w,
     reach,
     record {
-      desk = record { edition = h.desk.edition; value = h.desk.value; idle = h.desk.idle; busy = h.desk.busy; acks = λ i e. absurd (clash e); begun = h.desk.begun; most = h.desk.most; some = h.desk.some; done = h.desk.done; ended = h.desk.ended };
+      desk = record { edition = h.desk.edition; value = h.desk.value; idle = h.desk.idle; busy = h.desk.busy; acks = λ i e. cc; begun = h.desk.begun; most = h.desk.most; some = h.desk.some; done = h.desk.done; ended = h.desk.ended };
       warden = h.warden;
       reader = h.reader;
       bag = h.bag;
@@ -111,7 +110,7 @@ module _ (n f : ℕ) (liar : ℕ → Bool) (k j : ℕ) where
             edition = h.desk.edition;
             value = h.desk.value;
             idle = λ _. refl;
-            busy = λ e. absurd (clash e);
+            busy = λ e. cc;
             acks = h.desk.acks;
             begun = λ e one below. Memᴰ.tail (h.desk.begun e one below);
             most = omega (arith, h.desk.most);
@@ -148,10 +147,11 @@ module _ (n f : ℕ) (liar : ℕ → Bool) (k j : ℕ) where
   Desked z o = Followed n f liar k j (desked n k o z) × Rights n f liar (office_event k o.next o.outcome) z.log
 
   pub write_follows : {z : Seen} (v : List ℕ) → Followed n f liar k j z → Desked z (write_on z.desk v)
-  write_follows {z} v at =
-      cond_both (z.desk.busy || leb last_edition z.desk.now.edition) (refuse z.desk 5) (begin_writing z.desk v) (Desked z)
-      (λ _. (at, tt))
-      (λ free. let idle : z.desk.busy ≡ false = grind arith in (beginning v idle at, (began_right idle at, tt)))
+  write_follows {z} v at = go (write_case z.desk v)
+    where
+      go : {o : steps.Step Desk OfficeDone} → WriteCase z.desk v o → Desked z o
+      go (write_begins idle low) = (beginning v idle at, (began_right idle at, tt))
+      go write_refused = (at, tt)
 
   pub tick_follows : {z : Seen} → Followed n f liar k j z → Desked z (office_tick z.desk)
   tick_follows {z} at =
@@ -159,23 +159,16 @@ module _ (n f : ℕ) (liar : ℕ → Bool) (k j : ℕ) where
       (λ _. (stays n f liar k j (packets n office k (Each (Take z.desk.now))) [] (λ w _ h. take_each w k z.desk.now (λ _. (omega (arith, h.desk.edition), sym h.desk.value))) tt tt at, tt))
       (λ _. (at, tt))
 
-  took_follows : {z : Seen} (i to e : ℕ) → i < n → Memᴰ (record { from = i; to = to; note = k; message = Took e }) z.bag → Followed n f liar k j z → Desked z (took_on n f z.desk i e)
-  took_follows {z} i to e l m at = cond_both (awaits_took i e z.desk) (settle n f (acknowledge i z.desk)) (refuse z.desk 4) (Desked z) heard (λ _. (at, tt))
-    where
-      heard : awaits_took i e z.desk ≡ true → Desked z (settle n f (acknowledge i z.desk))
-      heard so =
-          let (busy, rest) = and_parts z.desk.busy (eqb e z.desk.now.edition && not (z.desk.acks i)) so in
-          let (same, _) = and_parts (eqb e z.desk.now.edition) (not (z.desk.acks i)) rest in
-          let acked = acking i to l busy (rw (eqb-true e z.desk.now.edition same) at m) at in
-          cond_both (quorum n f (count n (put i true z.desk.acks))) (quiet (close (acknowledge i z.desk)) ended) (quiet (acknowledge i z.desk) counted) (Desked z)
-          (λ all. let enough = leb-true n (count n (put i true z.desk.acks) + f) all in (ending busy enough acked, (ended_right busy enough acked, tt)))
-          (λ _. (acked, tt))
-
   pub office_follows : {z : Seen} (from to : ℕ) (m : Message) → Memᴰ (record { from = from; to = to; note = k; message = m }) z.bag → Followed n f liar k j z → Desked z (office_on n f z.desk from m)
-  office_follows from to (Take x) m at = (at, tt)
-  office_follows {z} from to (Took e) m at = cond_both (ltb from n) (took_on n f z.desk from e) (refuse z.desk 1) (Desked z) (λ l. took_follows from to e (ltb-true from n l) m at) (λ _. (at, tt))
-  office_follows from to (Ask r) m at = (at, tt)
-  office_follows from to (Told r x) m at = (at, tt)
+  office_follows {z} from to m sent at = go (office_case n f z.desk from m) sent
+    where
+      go : {m : Message} {o : steps.Step Desk OfficeDone} → OfficeCase n f z.desk from m o → Memᴰ (record { from = from; to = to; note = k; message = m }) z.bag → Desked z o
+      go (took_counts below on short) sent = (acking from to below on sent at, tt)
+      go (took_ends below on all) sent =
+          let acked = acking from to below on sent at in
+          let enough = leb-true n (count n (put from true z.desk.acks) + f) all in
+          (ending on enough acked, (ended_right on enough acked, tt))
+      go (office_passes e) sent = (at, tt)
 
   -- for another note
   abbrev Beside : ℕ → Seen → steps.Step Desk OfficeDone → Type 0
@@ -183,10 +176,12 @@ module _ (n f : ℕ) (liar : ℕ → Bool) (k j : ℕ) where
 
   module _ {z : Seen} (k' : ℕ) (apart : k ≡ k' → ⊥) (at : Followed n f liar k j z) where
     pub write_beside : (d : Desk) (v : List ℕ) → Beside k' z (write_on d v)
-    write_beside d v =
-        cond_both (d.busy || leb last_edition d.now.edition) (refuse d 5) (begin_writing d v) (Beside k' z)
-        (λ _. at)
-        (λ _. stays n f liar k j (packets n office k' (Each (Take (begin_writing d v).next.now))) (Began k' (suc d.now.edition) v ∷ []) (λ w _ _. take_each w k' (begin_writing d v).next.now (λ same. absurd (apart (sym same)))) (record { begun = rw (ne_eqb k k' apart); ended = refl; took = λ i. refl }, tt) (record { asks = refl; retries = refl; by = refl }, tt) at)
+    write_beside d v = go (write_case d v)
+      where
+        go : {o : steps.Step Desk OfficeDone} → WriteCase d v o → Beside k' z o
+        go (write_begins idle low) =
+            stays n f liar k j (packets n office k' (Each (Take (begin_writing d v).next.now))) (Began k' (suc d.now.edition) v ∷ []) (λ w _ _. take_each w k' (begin_writing d v).next.now (λ same. absurd (apart (sym same)))) (record { begun = rw (ne_eqb k k' apart); ended = refl; took = λ i. refl }, tt) (record { asks = refl; retries = refl; by = refl }, tt) at
+        go write_refused = at
 
     pub tick_beside : (d : Desk) → Beside k' z (office_tick d)
     tick_beside d =
@@ -194,16 +189,11 @@ module _ (n f : ℕ) (liar : ℕ → Bool) (k j : ℕ) where
         (λ _. stays n f liar k j (packets n office k' (Each (Take d.now))) [] (λ w _ _. take_each w k' d.now (λ same. absurd (apart (sym same)))) tt tt at)
         (λ _. at)
 
-    took_beside : (d : Desk) (i e : ℕ) → Beside k' z (took_on n f d i e)
-    took_beside d i e =
-        cond_both (awaits_took i e d) (settle n f (acknowledge i d)) (refuse d 4) (Beside k' z)
-        (λ _. cond_both (quorum n f (count n (put i true d.acks))) (quiet (close (acknowledge i d)) ended) (quiet (acknowledge i d) counted) (Beside k' z)
-        (λ _. stays n f liar k j [] (Ended k' d.now.edition ∷ []) (λ w _ _. nothing_sent n f liar k j w) (record { begun = refl; ended = rw (ne_eqb k k' apart); took = λ i. refl }, tt) (record { asks = refl; retries = refl; by = refl }, tt) at)
-        (λ _. at))
-        (λ _. at)
-
     pub office_beside : (d : Desk) (from : ℕ) (m : Message) → Beside k' z (office_on n f d from m)
-    office_beside d from (Take x) = at
-    office_beside d from (Took e) = cond_both (ltb from n) (took_on n f d from e) (refuse d 1) (Beside k' z) (λ _. took_beside d from e) (λ _. at)
-    office_beside d from (Ask r) = at
-    office_beside d from (Told r x) = at
+    office_beside d from m = go (office_case n f d from m)
+      where
+        go : {m : Message} {o : steps.Step Desk OfficeDone} → OfficeCase n f d from m o → Beside k' z o
+        go (took_counts below on short) = at
+        go (took_ends below on all) =
+            stays n f liar k j [] (Ended k' d.now.edition ∷ []) (λ w _ _. nothing_sent n f liar k j w) (record { begun = refl; ended = rw (ne_eqb k k' apart); took = λ i. refl }, tt) (record { asks = refl; retries = refl; by = refl }, tt) at
+        go (office_passes e) = at

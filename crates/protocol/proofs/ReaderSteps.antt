@@ -1,9 +1,8 @@
 -- What a reader does, the model can do; and what it says is right.
 -- Assumes nothing.
-use Rattle.std.proofs.Common.{◌≡◌, ℕ, suc, ◌+◌, ◌-◌, ◌*◌, ◌<◌, ◌≤◌, Bool, true, false, cond, not, ◌&&◌, ◌||◌, eqb, ltb, leb, List, [], ◌∷◌, ◌++◌, sym, refl, ap, ◌∙◌, inl, inr, ⊎_elim, arith}
+use Rattle.std.proofs.Common.{◌≡◌, ℕ, suc, ◌+◌, ◌-◌, ◌*◌, ◌<◌, ◌≤◌, Bool, true, false, ◌||◌, leb, List, [], ◌∷◌, ◌++◌, sym, refl, ap, ◌∙◌, inl, inr, ⊎_elim, arith}
 use mathlib.Core.List.{Memᴰ}
-use borrow.Author.Tests.{clash}
-use Rattle.std.proofs.lemmas.Bool.{cond_both, and_parts, cases_eq, ne_eqb, eq-eqb, eqb-true, leb-true, ltb-true, ltb-false, not-true}
+use Rattle.std.proofs.lemmas.Bool.{cases_eq, ne_eqb, eq-eqb, leb-true}
 use Rattle.register.specs.Count.{count}
 use Rattle.register.specs.Note.{Note}
 use Rattle.register.specs.Rule.{silence, reply, answers, IsRead, Reading, Found, Nothing, pick}
@@ -15,33 +14,18 @@ use Rattle.register.proofs.Put.{put_all, put_same}
 use Rattle.register.proofs.Keeps.{reach_kept}
 use Rattle.register.proofs.Stands.{stand, reads}
 use Rattle.register.proofs.Picks.{pick_found, pick_nothing}
-use Rattle.protocol.specs.Message.{Message, Take, Took, Ask, Told, Packet, Each, packets}
+use Rattle.protocol.specs.Message.{Message, Ask, Told, Packet, Each, packets}
 use Rattle.protocol.specs.Step.{Done, quiet, refuse}
 use Rattle.protocol.specs.Step as steps
-use Rattle.protocol.specs.Reader.{ReaderDone, asked, retried, no_reading, heard, undecided, unsure, Reader, new_reader, more_rounds, used_up, in_round, begin_round, read_on, decided, ask_again, reader_tick, awaits_told, hear, over, decide, settle_round, told_on, reader_on}
+use Rattle.protocol.specs.Reader.{ReaderDone, asked, retried, Reader, new_reader, more_rounds, in_round, read_on, decided, reader_tick, hear, over, reader_on}
 use Rattle.protocol.specs.Log.{Event, Asked, Retried, Read, Unsure, opens, took, high, before_round, reading, retried_since, lapsed}
 use Rattle.protocol.specs.Promise.{Few, Settled, Busy, RightRead}
 use Rattle.protocol.specs.System.{reader_event}
 use Rattle.protocol.proofs.Logs.{begun_in, ended_in, ended_most, before_ended, before_high, behind_lapsed, Rights}
 use Rattle.protocol.proofs.Packets.{of_each}
+use Rattle.protocol.proofs.PartyCases.{RoundCase, round_opens, round_refused, round_case, TickCase, tick_opens, tick_refused, tick_again, tick_idle, tick_case, DecideCase, decide_reads, decide_waits, decide_doubts, decide_case, Awaited, ReaderCase, told_counts, told_decides, reader_passes, reader_case}
 use Rattle.protocol.proofs.Sound.{SoundReader}
 use Rattle.protocol.proofs.Shows.{ShowsRound, Seen, also, readered, Shows, Followed, AllMean, more_mean, still_mean, nothing_sent, Outside, Outsides, Unsaids, desk_log, warden_log, changes, stays}
-
--- what a reader waits for when it waits
-pub record Awaited (n f i k r : ℕ) (q : Reader) : Type 0 where
-  pub busy : q.busy ≡ true
-  pub note : k ≡ q.note
-  pub round : r ≡ q.round
-  pub new : q.replies.heard i ≡ false
-  pub short : decided n f q ≡ false
-
-pub awaited : (n f i k r : ℕ) (q : Reader) → awaits_told n f i k r q ≡ true → Awaited n f i k r q
-awaited n f i k r q so =
-    let (busy, rest) = and_parts q.busy (eqb k q.note && (eqb r q.round && (not (q.replies.heard i) && not (decided n f q)))) so in
-    let (note, rest) = and_parts (eqb k q.note) (eqb r q.round && (not (q.replies.heard i) && not (decided n f q))) rest in
-    let (round, rest) = and_parts (eqb r q.round) (not (q.replies.heard i) && not (decided n f q)) rest in
-    let (new, short) = and_parts (not (q.replies.heard i)) (not (decided n f q)) rest in
-    record { busy = busy; note = eqb-true k q.note note; round = eqb-true r q.round round; new = not-true (q.replies.heard i) new; short = not-true (decided n f q) short }
 
 module _ (n f : ℕ) (liar : ℕ → Bool) (k j : ℕ) where
   ask_each : (w : World) (j' k' r : ℕ) → (j' ≡ j → k' ≡ k → (w.round r).live ≡ true) → AllMean n f liar k j w (packets n j' k' (Each (Ask r)))
@@ -134,11 +118,8 @@ module _ (n f : ℕ) (liar : ℕ → Bool) (k j : ℕ) where
   not_reading : {z : Seen} (q : Reader) (xs : List Event) → Outsides k xs → q.busy ≡ false → z.reader.next ≤ q.next → Followed n f liar k j z → Followed n f liar k j (record { desk = z.desk; warden = z.warden; reader = q; bag = z.bag; log = xs ++ z.log })
   not_reading {z} q xs out idle up at =
       changes n f liar k j q [] xs out
-      (λ w _ h. (nothing_sent n f liar k j w, record { shut = λ r l. h.reader.shut r (omega arith); now = λ e _. no_way e; reads = λ e _. no_way e; left = λ e _. no_way e }))
+      (λ w _ h. (nothing_sent n f liar k j w, record { shut = λ r l. h.reader.shut r (omega arith); now = λ busy _. cc; reads = λ busy _. cc; left = λ busy _. cc }))
       at
-    where
-      no_way : {A : Type 0} → q.busy ≡ true → A
-      no_way e = absurd (clash (sym idle ∙ e))
 
   pub restarting : {z : Seen} (first : ℕ) → z.reader.next ≤ first → Followed n f liar k j z → Followed n f liar k j (record { desk = z.desk; warden = z.warden; reader = new_reader first; bag = z.bag; log = z.log })
   restarting first up at = not_reading (new_reader first) [] tt refl up at
@@ -206,18 +187,16 @@ module _ (n f : ℕ) (liar : ℕ → Bool) (k j : ℕ) where
     nothing_of : {x : Event} → begun_in k x ≡ 0 → ended_in k x ≡ 0 → ((i : ℕ) → took i k x ≡ 0) → Outside k x
     nothing_of a b c = record { begun = a; ended = b; took = c }
 
-    deciding : {z : Seen} → z.reader.busy ≡ true → decided n f z.reader ≡ true → Followed n f liar k j z → (c : Reading) → pick n f z.reader.replies n ≡ c → Readered z (decide z.reader c)
-    deciding {z} busy full at (Found x) picked = (
+    deciding : {z : Seen} {c : Reading} {o : steps.Step Reader ReaderDone} → z.reader.busy ≡ true → decided n f z.reader ≡ true → Followed n f liar k j z → DecideCase z.reader c o → pick n f z.reader.replies n ≡ c → Readered z o
+    deciding {z} busy full at (decide_reads x) picked = (
       not_reading (over z.reader) (Read j z.reader.note x.edition x.value ∷ []) (nothing_of refl refl (λ i. refl), tt) refl (omega arith) at,
       λ same. let (w, reach, h) = at in (rw same (reads_right busy same full w reach h x picked), tt),
     )
-    deciding {z} busy full at Nothing picked =
-        cond_both (ltb 0 z.reader.left) (quiet z.reader undecided) (quiet (over z.reader) unsure) (Readered z)
-        (λ _. (at, λ _. tt))
-        (λ last. (
-          not_reading (over z.reader) (Unsure j z.reader.note ∷ []) (nothing_of refl refl (λ i. refl), tt) refl (omega arith) at,
-          λ same. let (w, reach, h) = at in (rw same (record { due = h.reader.reads busy same; busy = doubts_right busy same full w reach h picked; last = omega (arith, h.reader.left busy same, ltb-false 0 z.reader.left last) }), tt),
-        ))
+    deciding busy full at (decide_waits more) picked = (at, λ _. tt)
+    deciding {z} busy full at (decide_doubts last) picked = (
+      not_reading (over z.reader) (Unsure j z.reader.note ∷ []) (nothing_of refl refl (λ i. refl), tt) refl (omega arith) at,
+      λ same. let (w, reach, h) = at in (rw same (record { due = h.reader.reads busy same; busy = doubts_right busy same full w reach h picked; last = omega (arith, h.reader.left busy same) }), tt),
+    )
 
     -- a round of whichever note begins
     beginning : {z : Seen} (k' left : ℕ) (how : ReaderDone) (x : Event) → Outside k x → ((q : Reader) → q.note ≡ k' → reader_event j q (Done how) ≡ x ∷ []) → opens j x ≡ true → (k ≡ k' → (reading j k (x ∷ z.log) ≡ true) × (left + retried_since j (x ∷ z.log) ≡ more_rounds)) → Followed n f liar k j z →
@@ -230,23 +209,15 @@ module _ (n f : ℕ) (liar : ℕ → Bool) (k j : ℕ) where
         (cases_eq k k'))
 
     pub read_follows : {z : Seen} (k' : ℕ) → Followed n f liar k j z → Readered z (read_on z.reader k')
-    read_follows {z} k' at =
-        cond_both (used_up z.reader) (refuse z.reader 5) (record { next = in_round k' more_rounds z.reader; sends = Each (Ask z.reader.next); outcome = Done asked }) (Readered z)
-        (λ _. (at, λ _. tt))
-        (λ _. (beginning k' more_rounds asked (Asked j k') (nothing_of refl refl (λ i. refl)) (λ q is. rw is) (rw (eq-eqb j j refl)) (λ same. (rw (← same, eq-eqb j j refl, eq-eqb k k refl), rw (eq-eqb j j refl))) at, λ _. (tt, tt)))
+    read_follows {z} k' at = go (round_case k' more_rounds asked z.reader)
+      where
+        go : {o : steps.Step Reader ReaderDone} → RoundCase k' more_rounds asked z.reader o → Readered z o
+        go round_opens =
+            (beginning k' more_rounds asked (Asked j k') (nothing_of refl refl (λ i. refl)) (λ q is. rw is) (rw (eq-eqb j j refl)) (λ same. (rw (← same, eq-eqb j j refl, eq-eqb k k refl), rw (eq-eqb j j refl))) at, λ _. (tt, tt))
+        go round_refused = (at, λ _. tt)
 
     pub tick_follows : {z : Seen} → SoundReader n f z.reader → Followed n f liar k j z → Readered z (reader_tick n f z.reader)
-    tick_follows {z} sound at =
-        cond_both z.reader.busy (cond (decided n f z.reader) next (ask_again z.reader)) (quiet z.reader no_reading) (Readered z)
-        (λ busy. cond_both (decided n f z.reader) next (ask_again z.reader) (Readered z)
-        (λ full. cond_both (used_up z.reader) (refuse z.reader 5) (record { next = in_round k' left z.reader; sends = Each (Ask z.reader.next); outcome = Done retried }) (Readered z)
-        (λ _. (at, λ _. tt))
-        (λ _. (
-          beginning k' left retried (Retried j k') (nothing_of refl refl (λ i. refl)) (λ q is. rw is) (rw (eq-eqb j j refl)) (λ same. let (w, reach, h) = at in (rw (← same, eq-eqb j j refl, eq-eqb k k refl), rw (eq-eqb j j refl) (omega (arith, h.reader.left busy (sym same), sound.more busy full)))) at,
-          λ same. let (w, reach, h) = at in (rw same (record { due = h.reader.reads busy same; busy = doubts_right busy same full w reach h (sound.nothing busy full); more = omega (arith, h.reader.left busy same, sound.more busy full) }), tt),
-        )))
-        (λ _. (stays n f liar k j (packets n j k' (Each (Ask z.reader.round))) [] (λ w _ h. ask_each w j k' z.reader.round (λ _ same. (h.reader.now busy same).live)) tt tt at, λ _. tt)))
-        (λ _. (at, λ _. tt))
+    tick_follows {z} sound at = go (tick_case n f z.reader)
       where
         k' : ℕ
         k' = z.reader.note
@@ -254,38 +225,29 @@ module _ (n f : ℕ) (liar : ℕ → Bool) (k j : ℕ) where
         left : ℕ
         left = z.reader.left - 1
 
-        next : steps.Step Reader ReaderDone
-        next = begin_round k' left retried z.reader
-
-    told_follows : {z : Seen} (i to k' r : ℕ) (x : Note) → to ≡ j → i < n → liar j ≡ false → SoundReader n f z.reader → Memᴰ (record { from = i; to = to; note = k'; message = Told r x }) z.bag → Followed n f liar k j z → Readered z (told_on n f z.reader i k' r x)
-    told_follows {z} i to k' r x mine l fair sound m at =
-        cond_both (awaits_told n f i k' r z.reader) (settle_round n f q) (refuse z.reader 3) (Readered z)
-        (λ so.
-        let due = awaited n f i k' r z.reader so in
-        let heard_it = hears due.busy due.note due.round due.new in
-        cond_both (decided n f q) (decide q (pick n f q.replies n)) (quiet q heard) (Readered z)
-        (λ full. deciding due.busy full heard_it (pick n f q.replies n) refl)
-        (λ _. (heard_it, λ _. tt)))
-        (λ _. (at, λ _. tt))
-      where
-        q : Reader
-        q = hear i x z.reader
-
-        hears : z.reader.busy ≡ true → k' ≡ z.reader.note → r ≡ z.reader.round → z.reader.replies.heard i ≡ false → Followed n f liar k j (record { desk = z.desk; warden = z.warden; reader = q; bag = z.bag; log = z.log })
-        hears busy note_is round_is new =
-            ⊎_elim
-            (λ (same : k ≡ z.reader.note). hearing_in i to x mine l fair sound busy (sym same) new (rw (note_is ∙ sym same, round_is) at m) at)
-            (λ (apart : k ≡ z.reader.note → ⊥). elsewhere q [] [] tt apart (omega arith) (nothing_sent n f liar k j) at)
-            (cases_eq k z.reader.note)
+        go : {o : steps.Step Reader ReaderDone} → TickCase n f z.reader o → Readered z o
+        go (tick_opens busy full) = (
+          beginning k' left retried (Retried j k') (nothing_of refl refl (λ i. refl)) (λ q is. rw is) (rw (eq-eqb j j refl)) (λ same. let (w, reach, h) = at in (rw (← same, eq-eqb j j refl, eq-eqb k k refl), rw (eq-eqb j j refl) (omega (arith, h.reader.left busy (sym same), sound.more busy full)))) at,
+          λ same. let (w, reach, h) = at in (rw same (record { due = h.reader.reads busy same; busy = doubts_right busy same full w reach h (sound.nothing busy full); more = omega (arith, h.reader.left busy same, sound.more busy full) }), tt),
+        )
+        go tick_refused = (at, λ _. tt)
+        go (tick_again busy) = (stays n f liar k j (packets n j k' (Each (Ask z.reader.round))) [] (λ w _ h. ask_each w j k' z.reader.round (λ _ same. (h.reader.now busy same).live)) tt tt at, λ _. tt)
+        go tick_idle = (at, λ _. tt)
 
     pub reader_follows : {z : Seen} (from to k' : ℕ) (m : Message) → to ≡ j → liar j ≡ false → SoundReader n f z.reader → Memᴰ (record { from = from; to = to; note = k'; message = m }) z.bag → Followed n f liar k j z → Readered z (reader_on n f z.reader from k' m)
-    reader_follows from to k' (Take x) mine fair sound m at = (at, λ _. tt)
-    reader_follows from to k' (Took e) mine fair sound m at = (at, λ _. tt)
-    reader_follows from to k' (Ask r) mine fair sound m at = (at, λ _. tt)
-    reader_follows {z} from to k' (Told r x) mine fair sound m at =
-        cond_both (ltb from n) (told_on n f z.reader from k' r x) (refuse z.reader 1) (Readered z)
-        (λ l. told_follows from to k' r x mine (ltb-true from n l) fair sound m at)
-        (λ _. (at, λ _. tt))
+    reader_follows {z} from to k' m mine fair sound sent at = go (reader_case n f z.reader from k' m) sent
+      where
+        hears : (r : ℕ) (x : Note) → from < n → Awaited n f from k' r z.reader → Memᴰ (record { from = from; to = to; note = k'; message = Told r x }) z.bag → Followed n f liar k j (record { desk = z.desk; warden = z.warden; reader = hear from x z.reader; bag = z.bag; log = z.log })
+        hears r x below due sent =
+            ⊎_elim
+            (λ (same : k ≡ z.reader.note). hearing_in from to x mine below fair sound due.busy (sym same) due.new (rw (due.note ∙ sym same, due.round) at sent) at)
+            (λ (apart : k ≡ z.reader.note → ⊥). elsewhere (hear from x z.reader) [] [] tt apart (omega arith) (nothing_sent n f liar k j) at)
+            (cases_eq k z.reader.note)
+
+        go : {m : Message} {o : steps.Step Reader ReaderDone} → ReaderCase n f z.reader from k' m o → Memᴰ (record { from = from; to = to; note = k'; message = m }) z.bag → Readered z o
+        go (told_counts r x below due short) sent = (hears r x below due sent, λ _. tt)
+        go (told_decides r x below due full) sent = deciding due.busy full (hears r x below due sent) (decide_case (hear from x z.reader) (pick n f (hear from x z.reader).replies n)) refl
+        go (reader_passes e) sent = (at, λ _. tt)
 
   -- another reader
   abbrev Beside : ℕ → Seen → steps.Step Reader ReaderDone → Type 0
@@ -298,38 +260,31 @@ module _ (n f : ℕ) (liar : ℕ → Bool) (k j : ℕ) where
     saying : (x : Event) → Outside k x → Unsaids j (x ∷ []) → Followed n f liar k j (also [] (x ∷ []) z)
     saying x out unsaid = stays n f liar k j [] (x ∷ []) (λ w _ _. nothing_sent n f liar k j w) (out, tt) unsaid at
 
-    decide_beside : (q : Reader) (c : Reading) → Beside j' z (decide q c)
-    decide_beside q (Found x) = saying (Read j' q.note x.edition x.value) (record { begun = refl; ended = refl; took = λ i. refl }) (record { asks = refl; retries = refl; by = ne_eqb j j' apart }, tt)
-    decide_beside q Nothing =
-        cond_both (ltb 0 q.left) (quiet q undecided) (quiet (over q) unsure) (Beside j' z)
-        (λ _. at)
-        (λ _. saying (Unsure j' q.note) (record { begun = refl; ended = refl; took = λ i. refl }) (record { asks = refl; retries = refl; by = ne_eqb j j' apart }, tt))
+    decide_beside : {q : Reader} {c : Reading} {o : steps.Step Reader ReaderDone} → DecideCase q c o → Beside j' z o
+    decide_beside {q} (decide_reads x) = saying (Read j' q.note x.edition x.value) (record { begun = refl; ended = refl; took = λ i. refl }) (record { asks = refl; retries = refl; by = ne_eqb j j' apart }, tt)
+    decide_beside (decide_waits more) = at
+    decide_beside {q} (decide_doubts last) = saying (Unsure j' q.note) (record { begun = refl; ended = refl; took = λ i. refl }) (record { asks = refl; retries = refl; by = ne_eqb j j' apart }, tt)
 
     pub read_beside : (q : Reader) (k' : ℕ) → Beside j' z (read_on q k')
-    read_beside q k' =
-        cond_both (used_up q) (refuse q 5) (record { next = in_round k' more_rounds q; sends = Each (Ask q.next); outcome = Done asked }) (Beside j' z)
-        (λ _. at)
-        (λ _. sending (Asked j' k' ∷ []) k' q.next (record { begun = refl; ended = refl; took = λ i. refl }, tt) (record { asks = ne_eqb j j' apart; retries = refl; by = ne_eqb j j' apart }, tt))
+    read_beside q k' = go (round_case k' more_rounds asked q)
+      where
+        go : {o : steps.Step Reader ReaderDone} → RoundCase k' more_rounds asked q o → Beside j' z o
+        go round_opens = sending (Asked j' k' ∷ []) k' q.next (record { begun = refl; ended = refl; took = λ i. refl }, tt) (record { asks = ne_eqb j j' apart; retries = refl; by = ne_eqb j j' apart }, tt)
+        go round_refused = at
 
     pub tick_beside : (q : Reader) → Beside j' z (reader_tick n f q)
-    tick_beside q =
-        cond_both q.busy (cond (decided n f q) (begin_round q.note (q.left - 1) retried q) (ask_again q)) (quiet q no_reading) (Beside j' z)
-        (λ _. cond_both (decided n f q) (begin_round q.note (q.left - 1) retried q) (ask_again q) (Beside j' z)
-        (λ _. cond_both (used_up q) (refuse q 5) (record { next = in_round q.note (q.left - 1) q; sends = Each (Ask q.next); outcome = Done retried }) (Beside j' z)
-        (λ _. at)
-        (λ _. sending (Retried j' q.note ∷ []) q.note q.next (record { begun = refl; ended = refl; took = λ i. refl }, tt) (record { asks = refl; retries = ne_eqb j j' apart; by = ne_eqb j j' apart }, tt)))
-        (λ _. sending [] q.note q.round tt tt))
-        (λ _. at)
+    tick_beside q = go (tick_case n f q)
+      where
+        go : {o : steps.Step Reader ReaderDone} → TickCase n f q o → Beside j' z o
+        go (tick_opens busy full) = sending (Retried j' q.note ∷ []) q.note q.next (record { begun = refl; ended = refl; took = λ i. refl }, tt) (record { asks = refl; retries = ne_eqb j j' apart; by = ne_eqb j j' apart }, tt)
+        go tick_refused = at
+        go (tick_again busy) = sending [] q.note q.round tt tt
+        go tick_idle = at
 
     pub reader_beside : (q : Reader) (from k' : ℕ) (m : Message) → Beside j' z (reader_on n f q from k' m)
-    reader_beside q from k' (Take x) = at
-    reader_beside q from k' (Took e) = at
-    reader_beside q from k' (Ask r) = at
-    reader_beside q from k' (Told r x) =
-        cond_both (ltb from n) (told_on n f q from k' r x) (refuse q 1) (Beside j' z)
-        (λ _. cond_both (awaits_told n f from k' r q) (settle_round n f (hear from x q)) (refuse q 3) (Beside j' z)
-        (λ _. cond_both (decided n f (hear from x q)) (decide (hear from x q) (pick n f (reply from x q.replies) n)) (quiet (hear from x q) heard) (Beside j' z)
-        (λ _. decide_beside (hear from x q) (pick n f (reply from x q.replies) n))
-        (λ _. at))
-        (λ _. at))
-        (λ _. at)
+    reader_beside q from k' m = go (reader_case n f q from k' m)
+      where
+        go : {m : Message} {o : steps.Step Reader ReaderDone} → ReaderCase n f q from k' m o → Beside j' z o
+        go (told_counts r x below due short) = at
+        go (told_decides r x below due full) = decide_beside (decide_case (hear from x q) (pick n f (hear from x q).replies n))
+        go (reader_passes e) = at

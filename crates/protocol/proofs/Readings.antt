@@ -1,8 +1,7 @@
 -- A reading of a note that is not being written comes to its end by the honest alone.
 -- Assumes nothing.
-use Rattle.std.proofs.Common.{◌≡◌, ℕ, suc, ◌+◌, ◌-◌, ◌*◌, ◌<◌, ◌≤◌, Bool, true, false, cond, ◌||◌, List, [], ◌∷◌, ◌++◌, sym, refl, ap, ◌∙◌, subst, inr, ⊎_elim, arith}
+use Rattle.std.proofs.Common.{◌≡◌, ℕ, suc, ◌+◌, ◌-◌, ◌*◌, ◌<◌, ◌≤◌, Bool, true, false, cond, ◌||◌, List, [], ◌∷◌, ◌++◌, sym, refl, ap, ◌∙◌, subst, ⊎_elim, arith}
 use mathlib.Core.List.Memᴰ
-use mathlib.Core.List.{Memᴰ}
 use Rattle.std.proofs.lemmas.Bool.{cond-true, cond-false, eq-eqb, leb-true, lt-leb, le-leb}
 use Rattle.register.specs.Count.{count}
 use Rattle.register.specs.Note.{Note}
@@ -10,11 +9,11 @@ use Rattle.register.specs.Rule.{Replies, silence, reply, answers, quorum, IsRead
 use Rattle.register.specs.Model.{note, Office, Warden, Round, opened, offering, hearing, World, new_round, Step, Reach}
 use Rattle.register.specs.Model as M
 use Rattle.register.specs.Promise.{Full, Reads}
-use Rattle.register.proofs.Counting.{within, nobody}
+use Rattle.register.proofs.Counting.{within, either, nobody}
 use Rattle.register.proofs.Put.{put_same}
+use Rattle.register.proofs.Moves.{Telling, telling}
 use Rattle.register.proofs.Stands as Q
 use Rattle.register.proofs.Picks.{pick_found, pick_nothing}
-use Rattle.protocol.specs.Message.{Ask, Each}
 use Rattle.protocol.specs.Step.{Done, quiet, refuse}
 use Rattle.protocol.specs.Step as steps
 use Rattle.protocol.specs.Reader.{ReaderDone, asked, retried, no_reading, Reader, last_round, more_rounds, used_up, in_round, begin_round, decided, ask_again, decide}
@@ -25,6 +24,7 @@ use Rattle.protocol.specs.System as S
 use Rattle.protocol.specs.Progress.{Way, Decision, sure, doubtful, open_still, Decided, ReadingEnds, ReadingAnswers}
 use Rattle.protocol.proofs.Logs.{behind_lapsed}
 use Rattle.protocol.proofs.Packets.{at_each}
+use Rattle.protocol.proofs.PartyCases.{opening}
 use Rattle.protocol.proofs.Shows.{Shows, seen, Outside, warden_log}
 use Rattle.protocol.proofs.ReaderSteps.{doubts_right}
 use Rattle.protocol.proofs.Follows.{run_kept}
@@ -61,45 +61,21 @@ module _ (n f : ℕ) (liar : ℕ → Bool) (w : World) (r : ℕ) where
   hears_one : (i : ℕ) (p : Replies) (x : Note) → x ≡ (w.warden i).store → i < n → liar i ≡ false → p.heard i ≡ false → Calm n f liar w r p → Calm n f liar w r (reply i x p)
   hears_one i p x is l honest new m =
       record {
-        world = u;
-        reach = M.then (M.then m.reach first) second;
-        office = m.office;
-        warden = m.warden;
-        live = ap (λ (c : Round). c.live) heard_is ∙ m.live;
-        since = ap (λ (c : Round). c.since) heard_is ∙ m.since;
-        lapsed = λ i. ap (λ (c : Round). c.lapsed i) heard_is ∙ m.lapsed i;
-        replies = ap (λ (c : Round). c.replies) heard_is ∙ ap (reply i x) m.replies;
+        world = t.heard;
+        reach = M.then (M.then m.reach t.first) t.second;
+        office = t.office ∙ m.office;
+        warden = t.warden ∙ m.warden;
+        live = ap (λ (c : Round). c.live) t.round ∙ m.live;
+        since = ap (λ (c : Round). c.since) t.round ∙ m.since;
+        lapsed = λ i. ap (λ (c : Round). c.lapsed i) t.round ∙ m.lapsed i;
+        replies = ap (λ (c : Round). c.replies) t.round ∙ (ap (λ (y : Note). reply i y (m.world.round r).replies) has ∙ ap (reply i x) m.replies);
       }
     where
-      v : World
-      v = m.world
+      t : Telling n f liar m.world r i
+      t = telling n f liar m.world r i l honest m.live (rw m.replies new)
 
-      has : (v.warden i).store ≡ x
+      has : (m.world.warden i).store ≡ x
       has = ap (λ (c : ℕ → Warden). (c i).store) m.warden ∙ sym is
-
-      said : Round
-      said = offering i (v.warden i).store (v.round r)
-
-      t : World
-      t = new_round r said v
-
-      u : World
-      u = new_round r (hearing i x (t.round r)) t
-
-      said_is : t.round r ≡ said
-      said_is = put_same r said v.round
-
-      heard_is : u.round r ≡ hearing i x said
-      heard_is = put_same r (hearing i x (t.round r)) t.round ∙ ap (hearing i x) said_is
-
-      first : Step n f liar v t
-      first = M.tells r i honest m.live
-
-      offered : Memᴰ x (said.offered i)
-      offered = rw (put_same i ((v.warden i).store ∷ (v.round r).offered i) (v.round r).offered) (Memᴰ.head (sym has))
-
-      second : Step n f liar t u
-      second = M.listens r i x l (rw said_is m.live) (rw (said_is, m.replies) new) (inr (rw said_is offered))
 
   -- it comes to the last note that was written
   comes_to : 4 * f < n → w.office.ended ≡ w.office.edition → count n (λ i. liar i || M.behind (w.warden i)) ≤ f → (p : Replies) → quorum n f (answers n p) ≡ true → Calm n f liar w r p → (c : Reading) → pick n f p n ≡ c → c ≡ Found (note w.office w.office.edition)
@@ -127,9 +103,6 @@ module _ (n f : ℕ) (liar : ℕ → Bool) (w : World) (r : ℕ) where
       go (Found x) picked = ap Found (stands.unique x last (rw m.replies (pick_found n f p n x picked)) (rw m.replies is_read))
       go Nothing picked = absurd (pick_nothing n f p picked last is_read)
 
-abbrev opening : (k c : ℕ) → ReaderDone → Reader → steps.Step Reader ReaderDone
-opening k c how q = record { next = in_round k c q; sends = Each (Ask q.next); outcome = Done how }
-
 -- a round that begins, by an event of its own, while the note is not being written reads the last note that was written
 module _ (n f : ℕ) (liar : ℕ → Bool) (least : 4 * f < n) (s : System) (j k c : ℕ) (own : liar j ≡ false) (how : ReaderDone) (x : Event) (event : reader_event j (in_round k c (s.reader j)) (Done how) ≡ x ∷ []) (outside : Outside k x) (calm : (s.office k).busy ≡ false) (few : Few n f liar j k (x ∷ s.log)) where
   abbrev begun : System
@@ -145,7 +118,7 @@ module _ (n f : ℕ) (liar : ℕ → Bool) (least : 4 * f < n) (s : System) (j k
       q = in_round k c (s.reader j)
 
       honest_few : count n liar ≤ f
-      honest_few = omega (arith, within n liar (λ i. liar i || lapsed i j k (x ∷ s.log)) (λ i _ e. rw e))
+      honest_few = omega (arith, either n liar (λ i. lapsed i j k (x ∷ s.log)))
 
       go : (w : World) → Reach n f liar w → Shows n liar k j w (seen k j s) → (t : System) × Way n f liar begun t × (t.log ≡ Read j k (s.office k).now.edition (s.office k).now.value ∷ begun.log)
       go w reach h =
@@ -180,7 +153,7 @@ module _ (n f : ℕ) (liar : ℕ → Bool) (least : 4 * f < n) (s : System) (j k
               }
 
 -- a reader whose numbers are not used up begins the round
-begins : (k c : ℕ) (how : ReaderDone) (q : Reader) → q.next < last_round → begin_round k c how q ≡ opening k c how q
+pub begins : (k c : ℕ) (how : ReaderDone) (q : Reader) → q.next < last_round → begin_round k c how q ≡ opening k c how q
 begins k c how q fresh = cond-false (used_up q) (refuse q 5) (opening k c how q) (lt-leb last_round q.next fresh)
 
 pub reading_answers_lem : ReadingAnswers
@@ -224,7 +197,7 @@ reading_ends_lem n f liar least s run j own busy calm few chance =
     k = (s.reader j).note
 
     honest_few : count n liar ≤ f
-    honest_few = omega (arith, within n liar (λ i. liar i || lapsed i j k s.log) (λ i _ e. rw e))
+    honest_few = omega (arith, either n liar (λ i. lapsed i j k s.log))
 
     go : (t : System) → Way n f liar s t → Decided n f j s t → Decision j s t → (t : System) × Way n f liar s t × (x : Note) × (xs : List Event) × (t.log ≡ Read j k x.edition x.value ∷ (xs ++ s.log))
     go t way d (sure x log) = (t, way, x, [], log)

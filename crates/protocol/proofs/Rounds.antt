@@ -3,23 +3,24 @@
 use Rattle.std.proofs.Common.{◌≡◌, ℕ, suc, ◌+◌, ◌-◌, ◌<◌, ◌≤◌, Bool, true, false, cond, ltb, ◌⊎◌, ◌++◌, sym, refl, ap, ◌∙◌, subst, inl, inr, ⊎_elim, arith}
 use mathlib.Core.List.Memᴰ
 use mathlib.Core.List.{Memᴰ}
-use Rattle.std.proofs.lemmas.Bool.{cond_both, cond-true, cond-false, cases_Bool, eq-eqb, lt-ltb, leb-true, leb-false, ltb-true, ltb-false}
+use Rattle.std.proofs.lemmas.Bool.{cond_both, cond-true, cond-false, cases_Bool, eq-eqb, lt-ltb, leb-true, leb-false}
 use Rattle.register.specs.Count.{count}
 use Rattle.register.specs.Note.{Note}
-use Rattle.register.specs.Rule.{Replies, reply, answers, Reading, Found, Nothing, pick}
-use Rattle.register.proofs.Put.{put_same}
+use Rattle.register.specs.Rule.{Replies, reply, answers, Reading, pick}
+use Rattle.register.proofs.Put.{put_same, put_cell}
 use Rattle.register.proofs.Moves.{Nearer, descend, who, fall, enough}
 use Rattle.protocol.specs.Message.{Ask, Told, Packet}
 use Rattle.protocol.specs.Step.{Step, quiet, refuse}
 use Rattle.protocol.specs.Warden.{warden_on}
-use Rattle.protocol.specs.Reader.{ReaderDone, retried, no_reading, heard, undecided, unsure, Reader, begin_round, decided, ask_again, awaits_told, hear, over, decide, settle_round, told_on}
+use Rattle.protocol.specs.Reader.{ReaderDone, retried, no_reading, heard, Reader, begin_round, decided, ask_again, awaits_told, hear, decide, settle_round, told_on}
 use Rattle.protocol.specs.Log.{Log}
 use Rattle.protocol.specs.System.{reader_event, System, by_warden, by_reader}
 use Rattle.protocol.specs.System as S
 use Rattle.protocol.specs.Progress.{Way, here, unheard, Decision, sure, doubtful, open_still, Decided, RoundEnds}
 use Rattle.protocol.proofs.Packets.{at_each}
+use Rattle.protocol.proofs.PartyCases.{DecideCase, decide_reads, decide_waits, decide_doubts, decide_case}
 use Rattle.protocol.proofs.Follows.{run_kept}
-use Rattle.protocol.proofs.Ways.{honest_so, own_store, Fair, by}
+use Rattle.protocol.proofs.Ways.{honest_so, Fair, by}
 
 -- what is awaited
 pub waits : (n f i k r : ℕ) (q : Reader) → q.busy ≡ true → q.note ≡ k → q.round ≡ r → q.replies.heard i ≡ false → decided n f q ≡ false → awaits_told n f i k r q ≡ true
@@ -73,7 +74,7 @@ module _ (n f : ℕ) (liar : ℕ → Bool) (few : count n liar ≤ f) (s : Syste
   tells : (u : System) (i : ℕ) → i < n → liar i ≡ false → Waiting u → Fair n f liar u (telling i u) × Waiting (telling i u)
   tells u i l honest h = (
     (S.warden_hears i (ask_to i) l honest (h.asked i l) refl, honest_so liar j own),
-    record { reader = h.reader; short = h.short; asked = λ i l. Memᴰ.tail (h.asked i l); office = h.office; warden = own_store i k u.warden ∙ h.warden; log = h.log },
+    record { reader = h.reader; short = h.short; asked = λ i l. Memᴰ.tail (h.asked i l); office = h.office; warden = put_cell i k u.warden ∙ h.warden; log = h.log },
   )
 
   -- the reader hears it
@@ -118,16 +119,10 @@ module _ (n f : ℕ) (liar : ℕ → Bool) (few : count n liar ≤ f) (s : Syste
   hears_all u h = descend Waiting Over (unheard n liar j) further (suc (unheard n liar j u)) u h (omega arith)
 
 -- what was decided
-decision : (j : ℕ) (q : Reader) (s t : System) → q.busy ≡ true → q.note ≡ (s.reader j).note → q.left ≡ (s.reader j).left → (c : Reading) → t.reader j ≡ (decide q c).next → t.log ≡ reader_event j (decide q c).next (decide q c).outcome ++ s.log → Decision j s t
-decision j q s t busy note left (Found x) next log = sure x (rw (← note) log)
-decision j q s t busy note left Nothing next log =
-    cond_both (ltb 0 q.left) (quiet q undecided) (quiet (over q) unsure) (λ (o : Step Reader ReaderDone). t.reader j ≡ o.next → t.log ≡ reader_event j o.next o.outcome ++ s.log → Decision j s t)
-    (λ more next log. open_still (ap (λ (q : Reader). q.busy) next ∙ busy) (rw (← left) (ltb-true 0 q.left more)) log)
-    (λ last next log. doubtful (sym left ∙ none last) (rw (← note) log))
-    next log
-  where
-    none : ltb 0 q.left ≡ false → q.left ≡ 0
-    none last = omega (arith, ltb-false 0 q.left last)
+decision : (j : ℕ) (q : Reader) (s t : System) → q.busy ≡ true → q.note ≡ (s.reader j).note → q.left ≡ (s.reader j).left → {c : Reading} {o : Step Reader ReaderDone} → DecideCase q c o → t.reader j ≡ o.next → t.log ≡ reader_event j o.next o.outcome ++ s.log → Decision j s t
+decision j q s t busy note left (decide_reads x) next log = sure x (rw (← note) log)
+decision j q s t busy note left (decide_waits more) next log = open_still (ap (λ (q : Reader). q.busy) next ∙ busy) (rw (← left) more) log
+decision j q s t busy note left (decide_doubts last) next log = doubtful (sym left ∙ last) (rw (← note) log)
 
 -- a decision leaves the round as it was
 pub record Same (q q' : Reader) : Type 0 where
@@ -138,11 +133,12 @@ pub record Same (q q' : Reader) : Type 0 where
   pub replies : q'.replies ≡ q.replies
 
 pub same : (q : Reader) (c : Reading) → Same q (decide q c).next
-same q (Found x) = record { note = refl; round = refl; next = refl; left = refl; replies = refl }
-same q Nothing =
-    cond_both (ltb 0 q.left) (quiet q undecided) (quiet (over q) unsure) (λ (o : Step Reader ReaderDone). Same q o.next)
-    (λ _. record { note = refl; round = refl; next = refl; left = refl; replies = refl })
-    (λ _. record { note = refl; round = refl; next = refl; left = refl; replies = refl })
+same q c = go (decide_case q c)
+  where
+    go : {c : Reading} {o : Step Reader ReaderDone} → DecideCase q c o → Same q o.next
+    go (decide_reads x) = record { note = refl; round = refl; next = refl; left = refl; replies = refl }
+    go (decide_waits more) = record { note = refl; round = refl; next = refl; left = refl; replies = refl }
+    go (decide_doubts last) = record { note = refl; round = refl; next = refl; left = refl; replies = refl }
 
 -- it asks again, and hears all but f
 module _ (n f : ℕ) (liar : ℕ → Bool) (few : count n liar ≤ f) (s : System) (j : ℕ) (own : liar j ≡ false) (busy : (s.reader j).busy ≡ true) where
@@ -163,7 +159,7 @@ module _ (n f : ℕ) (liar : ℕ → Bool) (few : count n liar ≤ f) (s : Syste
           told = rw (ap (λ (q : Reader). q.replies) ends.next ∙ kept.replies) (leb-true n (answers n q.replies + f) ends.told);
           office = ends.office;
           warden = ends.warden;
-          decision = decision j q s t ends.reader.busy ends.reader.note ends.reader.left (pick n f q.replies n) ends.next ends.log;
+          decision = decision j q s t ends.reader.busy ends.reader.note ends.reader.left (decide_case q (pick n f q.replies n)) ends.next ends.log;
         },
       )
     where

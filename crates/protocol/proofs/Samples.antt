@@ -11,7 +11,7 @@ use Rattle.protocol.specs.Message.{office, Packet, to_each}
 use Rattle.protocol.specs.Warden.{warden_on}
 use Rattle.protocol.specs.Office.{office_on}
 use Rattle.protocol.specs.Reader.{reader_on}
-use Rattle.protocol.specs.Log.{Event, Began, Ended, Took, Asked, Retried, Read, Unsure}
+use Rattle.protocol.specs.Log.{Began, Asked, Retried, Read, Unsure}
 use Rattle.protocol.specs.Promise.{Busy}
 use Rattle.protocol.specs.System.{System, by_office, by_warden, by_reader, Run, begin, then}
 use Rattle.protocol.specs.System as S
@@ -52,38 +52,32 @@ pub sample : Sample
 unfolding count pick to_each
 sample = record { run = play_runs 5 1 choices S.boot begin; log = refl; few = omega arith }
 
--- an event that a log does not have
-no_more : {x : Event} → Memᴰ x [] → ⊥
-no_more m = Memᴰ.not-nil m
-
 -- what was begun in the sample
 only_begun : (e : ℕ) (v : List ℕ) → Memᴰ (Began 7 e v) wrote → (e ≡ 1) × (v ≡ 111 ∷ [])
-only_begun e v m =
-    ⊎_elim (λ (is : Began 7 e v ≡ Ended 7 1). never (cc)) (λ m.
-    ⊎_elim (λ (is : Began 7 e v ≡ Took 3 7 1). never (cc)) (λ m.
-    ⊎_elim (λ (is : Began 7 e v ≡ Took 2 7 1). never (cc)) (λ m.
-    ⊎_elim (λ (is : Began 7 e v ≡ Took 1 7 1). never (cc)) (λ m.
-    ⊎_elim (λ (is : Began 7 e v ≡ Took 0 7 1). never (cc)) (λ m.
-    ⊎_elim (λ (is : Began 7 e v ≡ Began 7 1 (111 ∷ [])). (cc, cc)) (λ m. absurd (no_more m))
-    (Memᴰ.cases_cons m)) (Memᴰ.cases_cons m)) (Memᴰ.cases_cons m)) (Memᴰ.cases_cons m)) (Memᴰ.cases_cons m)) (Memᴰ.cases_cons m)
-  where
-    never : {A : Type 0} → ◌≡◌ {A = ℕ} 0 1 → A
-    never z = absurd (omega arith)
+only_begun e v (Memᴰ.head is) = cc
+only_begun e v (Memᴰ.tail (Memᴰ.head is)) = cc
+only_begun e v (Memᴰ.tail (Memᴰ.tail (Memᴰ.head is))) = cc
+only_begun e v (Memᴰ.tail (Memᴰ.tail (Memᴰ.tail (Memᴰ.head is)))) = cc
+only_begun e v (Memᴰ.tail (Memᴰ.tail (Memᴰ.tail (Memᴰ.tail (Memᴰ.head is))))) = cc
+only_begun e v (Memᴰ.tail (Memᴰ.tail (Memᴰ.tail (Memᴰ.tail (Memᴰ.tail (Memᴰ.head is)))))) = (cc, cc)
+only_begun e v (Memᴰ.tail (Memᴰ.tail (Memᴰ.tail (Memᴰ.tail (Memᴰ.tail (Memᴰ.tail m)))))) = absurd (Memᴰ.not-nil m)
 
 -- and nothing else, so nothing is under way
 not_busy : Busy 65 7 (Asked 65 7 ∷ wrote) → ⊥
-not_busy (e, v, m, unended) =
-    ⊎_elim
-    (λ (is : Began 7 e v ≡ Asked 65 7). let z : ◌≡◌ {A = ℕ} 0 1 = cc in omega arith)
-    (λ m. unended (rw (only_begun e v m).0 (Memᴰ.head refl)))
-    (Memᴰ.cases_cons m)
+not_busy (e, v, Memᴰ.head is, unended) = cc
+not_busy (e, v, Memᴰ.tail m, unended) = unended (rw (only_begun e v m).0 (Memᴰ.head refl))
+
+-- nor anything of another value
+made_up : Memᴰ (Began 7 1 (112 ∷ [])) (Asked 65 7 ∷ wrote) → ⊥
+made_up (Memᴰ.head is) = cc
+made_up (Memᴰ.tail m) = let is = (only_begun 1 (112 ∷ []) m).1 in let z : ◌≡◌ {A = ℕ} 112 111 = cc in omega arith
 
 pub bad_logs : BadLogs
 unfolding count
 bad_logs =
     record {
       stale = λ good. let late : 1 ≤ 0 = (good [] (Asked 65 7 ∷ wrote) (Read 65 7 0 []) refl).fresh (omega arith) 1 (Memᴰ.head refl) in omega arith;
-      made_up = λ good. ⊎_elim (λ m. ⊎_elim (λ (e : Began 7 1 (112 ∷ []) ≡ Asked 65 7). let z : ◌≡◌ {A = ℕ} 0 1 = cc in omega arith) (λ m. let e = (only_begun 1 (112 ∷ []) m).1 in let z : ◌≡◌ {A = ℕ} 112 111 = cc in omega arith) (Memᴰ.cases_cons m)) (λ (e, v). omega arith) ((good [] (Asked 65 7 ∷ wrote) (Read 65 7 1 (112 ∷ [])) refl).written (omega arith));
+      made_up = λ good. ⊎_elim made_up (λ (e, v). omega arith) ((good [] (Asked 65 7 ∷ wrote) (Read 65 7 1 (112 ∷ [])) refl).written (omega arith));
       idle_retry = λ good. not_busy ((good [] (Asked 65 7 ∷ wrote) (Retried 65 7) refl).busy (omega arith));
       idle_unsure = λ good. not_busy ((good [] (Asked 65 7 ∷ wrote) (Unsure 65 7) refl).busy (omega arith));
       two_values = λ good. let (less, _) = (good [] wrote (Began 7 1 (112 ∷ [])) refl).next 1 (111 ∷ []) (Memᴰ.tail (Memᴰ.tail (Memᴰ.tail (Memᴰ.tail (Memᴰ.tail (Memᴰ.head refl)))))) in omega arith;

@@ -8,6 +8,7 @@ use Rattle.register.specs.Note.{Note}
 use Rattle.register.specs.Rule.{Replies}
 use Rattle.register.specs.Model.{Office, Warden, Round, World, Step, Reach}
 use Rattle.register.proofs.Grows.{step_grows, step_grows_round}
+use Rattle.register.proofs.Keeps.{Written}
 use Rattle.protocol.specs.Message.{office, Message, Take, Took, Ask, Told, Packet, packets}
 use Rattle.protocol.specs.Step as steps
 use Rattle.protocol.specs.Office.{OfficeDone, Desk}
@@ -16,10 +17,6 @@ use Rattle.protocol.specs.Reader.{ReaderDone, more_rounds, Reader}
 use Rattle.protocol.specs.Log.{Event, Began, Ended, Log, took, asks, retries, opens, by, high, held, lapsed, before_round, reading, retried_since}
 use Rattle.protocol.specs.System.{warden_event, office_event, reader_event, System}
 use Rattle.protocol.proofs.Logs.{ended_in, last_ended, begun_in, last_begun, not_begun}
-
--- the note of an edition begun so far
-abbrev pub Written : Office → Note → Type 0
-Written o x = (x.edition ≤ o.edition) × (x.value ≡ o.value x.edition)
 
 pub record ShowsDesk (k : ℕ) (o : Office) (d : Desk) (l : Log) : Type 0 where
   pub edition : o.edition ≡ d.now.edition

@@ -1,30 +1,27 @@
 -- What a warden does, or what becomes of it, the model can do; and what is seen of it is right.
 -- Assumes nothing.
-use Rattle.std.proofs.Common.{◌≡◌, ℕ, ◌<◌, Bool, true, false, eqb, ltb, List, [], ◌∷◌, ◌++◌, sym, refl, ap, inr, ⊎_elim, arith}
+use Rattle.std.proofs.Common.{◌≡◌, ℕ, ◌<◌, ◌≤◌, Bool, true, false, ltb, List, [], ◌∷◌, ◌++◌, sym, refl, ap, inr, ⊎_elim, arith}
 use mathlib.Core.List.Memᴰ
 use mathlib.Core.List.{Memᴰ}
-use Rattle.std.proofs.lemmas.Bool.{cond_both, cases_eq, cases_Bool, both_ways, ne_eqb, eq-eqb, eqb-true, ltb-true, ltb-false}
+use Rattle.std.proofs.lemmas.Bool.{cases_eq, cases_Bool, both_ways, ne_eqb}
 use Rattle.register.specs.Count.{put}
 use Rattle.register.specs.Note.{Note, none}
 use Rattle.register.specs.Rule.{Replies}
 use Rattle.register.specs.Model.{note, Warden, stored, emptied, Round, offering, lapsing, World, new_warden, new_round, Step}
 use Rattle.register.specs.Model as M
-use Rattle.register.proofs.Put.{put_all, put_both, put_same}
-use Rattle.register.proofs.Keeps.{reach_kept}
-use Rattle.protocol.specs.Message.{office, Message, Take, Took, Ask, Told, Packet, One, packets}
+use Rattle.register.proofs.Put.{put_all, put_apart, put_both, put_same}
+use Rattle.register.proofs.Keeps.{Written, reach_kept}
+use Rattle.protocol.specs.Message.{office, Message, Take, Took, Ask, Told, Packet, packets}
 use Rattle.protocol.specs.Step.{Done, Refused, refuse}
 use Rattle.protocol.specs.Step as steps
-use Rattle.protocol.specs.Warden.{WardenDone, taken, take_on, ask_on, warden_on}
+use Rattle.protocol.specs.Warden.{WardenDone, ask_on, warden_on}
 use Rattle.protocol.specs.Log.{Log, Lost}
 use Rattle.protocol.specs.Log as L
 use Rattle.protocol.specs.Promise.{RightTook}
 use Rattle.protocol.specs.System.{warden_event}
 use Rattle.protocol.proofs.Logs.{Rights}
-use Rattle.protocol.proofs.Shows.{Written, ShowsWarden, ShowsRound, Means, Seen, also, wardened, Followed, AllMean, more_mean, still_mean, desk_log, warden_log, reader_log, stays}
-
--- of two functions that are changed at one place
-pub put_apart : {A B : Type 0} (P : ℕ → A → B → Type 0) (i : ℕ) (a : A) (b : B) (g : ℕ → A) (h : ℕ → B) → P i a b → ((j : ℕ) → (j ≡ i → ⊥) → P j (g j) (h j)) → (j : ℕ) → P j (put i a g j) (put i b h j)
-put_apart P i a b g h here there j = ⊎_elim (λ (e : j ≡ i). rw (e, eq-eqb i i refl) here) (λ apart. rw (ne_eqb j i apart) (there j apart)) (cases_eq j i)
+use Rattle.protocol.proofs.PartyCases.{takes_note, WardenCase, warden_takes, warden_had, warden_answers, warden_passes, warden_case}
+use Rattle.protocol.proofs.Shows.{ShowsWarden, ShowsRound, Means, Seen, also, wardened, Followed, AllMean, more_mean, still_mean, desk_log, warden_log, reader_log, stays}
 
 module _ (n f : ℕ) (liar : ℕ → Bool) (k j : ℕ) where
   one_sent : (w : World) (p : Packet) → Means n liar k j w p → AllMean n f liar k j w (p ∷ [])
@@ -35,8 +32,8 @@ module _ (n f : ℕ) (liar : ℕ → Bool) (k j : ℕ) where
   says i to k' m = record { from = i; to = to; note = k'; message = m }
 
   -- it takes a later edition
-  taking : {z : Seen} (i : ℕ) (x : Note) (p : Packet) → p ≡ says office i k (Take x) → Memᴰ p z.bag → (z.warden i).edition < x.edition → Followed n f liar k j z → Followed n f liar k j (wardened n i k (record { next = x; sends = One office (Took x.edition); outcome = Done taken }) z)
-  taking {z} i x p is m late (w, reach, h) = (
+  taking : {z : Seen} (i : ℕ) (x : Note) → Memᴰ (says office i k (Take x)) z.bag → (z.warden i).edition < x.edition → Followed n f liar k j z → Followed n f liar k j (wardened n i k (takes_note x) z)
+  taking {z} i x m late (w, reach, h) = (
     new_warden i c w,
     M.then reach step,
     record {
@@ -51,7 +48,7 @@ module _ (n f : ℕ) (liar : ℕ → Bool) (k j : ℕ) where
       event = L.Took i k x.edition
 
       written : Written w.office x
-      written = h.bag (says office i k (Take x)) (rw is at m) refl refl
+      written = h.bag (says office i k (Take x)) m refl refl
 
       c : Warden
       c = stored (note w.office x.edition) (w.warden i)
@@ -136,9 +133,9 @@ module _ (n f : ℕ) (liar : ℕ → Bool) (k j : ℕ) where
           }
 
   -- it took what was begun, and what is later than it had
-  took_right : {z : Seen} (i : ℕ) (x : Note) (p : Packet) → p ≡ says office i k (Take x) → Memᴰ p z.bag → (z.warden i).edition < x.edition → Followed n f liar k j z → RightTook z.log i k x.edition
-  took_right {z} i x p is m late (w, reach, h) =
-      let (below, _) = h.bag (says office i k (Take x)) (rw is at m) refl refl in
+  took_right : {z : Seen} (i : ℕ) (x : Note) → Memᴰ (says office i k (Take x)) z.bag → (z.warden i).edition < x.edition → Followed n f liar k j z → RightTook z.log i k x.edition
+  took_right {z} i x m late (w, reach, h) =
+      let (below, _) = h.bag (says office i k (Take x)) m refl refl in
       let was = ap (λ (y : Note). y.edition) (h.warden i).store in
       record { begun = (w.office.value x.edition, h.desk.begun x.edition (omega arith) below); later = omega (arith, (h.warden i).held) }
 
@@ -152,23 +149,15 @@ module _ (n f : ℕ) (liar : ℕ → Bool) (k j : ℕ) where
       (w, reach, record { desk = h.desk; warden = put_all (λ i y. ShowsWarden k i (w.warden i) y z.log) i (z.warden i) z.warden (h.warden i) h.warden; reader = h.reader; bag = h.bag })
 
   -- it had this edition, or a later one
-  had : {z : Seen} (i : ℕ) (x : Note) → ltb (z.warden i).edition x.edition ≡ false → Followed n f liar k j z → Followed n f liar k j (also (says i office k (Took x.edition) ∷ []) [] z)
+  had : {z : Seen} (i : ℕ) (x : Note) → x.edition ≤ (z.warden i).edition → Followed n f liar k j z → Followed n f liar k j (also (says i office k (Took x.edition) ∷ []) [] z)
   had {z} i x early at =
       stays n f liar k j (says i office k (Took x.edition) ∷ []) []
-      (λ w reach h. one_sent w (says i office k (Took x.edition)) (λ _. inr (λ _. omega (arith, ltb-false (z.warden i).edition x.edition early, ap (λ (y : Note). y.edition) (h.warden i).store, ((reach_kept reach).warden i).top))))
+      (λ w reach h. one_sent w (says i office k (Took x.edition)) (λ _. inr (λ _. omega (arith, ap (λ (y : Note). y.edition) (h.warden i).store, ((reach_kept reach).warden i).top))))
       tt tt at
 
-  take_follows : {z : Seen} (i from to : ℕ) (x : Note) → eqb from office ≡ true → to ≡ i → Memᴰ (says from to k (Take x)) z.bag → Followed n f liar k j z → Wardened i z (take_on (z.warden i) x)
-  take_follows {z} i from to x sent to_is m at =
-      cond_both (ltb (z.warden i).edition x.edition) (record { next = x; sends = One office (Took x.edition); outcome = Done taken }) (record { next = z.warden i; sends = One office (Took x.edition); outcome = Refused 2 }) (Wardened i z)
-      (λ late. let later = ltb-true (z.warden i).edition x.edition late in (taking i x (says from to k (Take x)) is m later at, (took_right i x (says from to k (Take x)) is m later at, tt)))
-      (λ early. (unchanged z i (says i office k (Took x.edition) ∷ []) (had i x early at), tt))
-    where
-      is : says from to k (Take x) ≡ says office i k (Take x)
-      is = rw (eqb-true from office sent, to_is)
-
-  ask_follows : {z : Seen} (i from to r : ℕ) → i < n → liar i ≡ false → Memᴰ (says from to k (Ask r)) z.bag → Followed n f liar k j z → Wardened i z (ask_on (z.warden i) from r)
-  ask_follows {z} i from to r l honest m at =
+  -- it tells what it has, to this reader or to somebody else
+  answering : {z : Seen} (i from to r : ℕ) → i < n → liar i ≡ false → Memᴰ (says from to k (Ask r)) z.bag → Followed n f liar k j z → Wardened i z (ask_on (z.warden i) from r)
+  answering {z} i from to r l honest m at =
       (unchanged z i (told ∷ []) (⊎_elim (λ (mine : from ≡ j). ⊎_elim (λ strange. aside (λ _ fair. absurd (both_ways (liar j) fair strange))) (λ fair. rw mine (telling i r to l honest fair (rw mine at m) at)) (cases_Bool (liar j))) (λ apart. aside (λ mine _. absurd (apart mine))) (cases_eq from j)), tt)
     where
       told : Packet
@@ -178,34 +167,33 @@ module _ (n f : ℕ) (liar : ℕ → Bool) (k j : ℕ) where
       aside out = stays n f liar k j (told ∷ []) [] (λ w _ _. one_sent w told (λ _. inr (λ mine fair _. absurd (out mine fair)))) tt tt at
 
   pub warden_follows : {z : Seen} (i from to : ℕ) (m : Message) → i < n → liar i ≡ false → to ≡ i → Memᴰ (says from to k m) z.bag → Followed n f liar k j z → Wardened i z (warden_on (z.warden i) from m)
-  warden_follows {z} i from to (Take x) l honest to_is m at =
-      cond_both (eqb from office) (take_on (z.warden i) x) (refuse (z.warden i) 1) (Wardened i z)
-      (λ sent. take_follows i from to x sent to_is m at)
-      (λ _. (unchanged z i [] at, tt))
-  warden_follows {z} i from to (Took e) l honest to_is m at = (unchanged z i [] at, tt)
-  warden_follows i from to (Ask r) l honest to_is m at = ask_follows i from to r l honest m at
-  warden_follows {z} i from to (Told r x) l honest to_is m at = (unchanged z i [] at, tt)
+  warden_follows {z} i from to m l honest to_is sent at = go (warden_case (z.warden i) from m) sent
+    where
+      go : {m : Message} {o : steps.Step Note WardenDone} → WardenCase (z.warden i) from m o → Memᴰ (says from to k m) z.bag → Wardened i z o
+      go (warden_takes x own late) sent =
+          let sent' : Memᴰ (says office i k (Take x)) z.bag = rw (own, to_is) at sent in
+          (taking i x sent' late at, (took_right i x sent' late at, tt))
+      go (warden_had x own early) sent = (unchanged z i (says i office k (Took x.edition) ∷ []) (had i x early at), tt)
+      go (warden_answers r) sent = answering i from to r l honest sent at
+      go warden_passes sent = (unchanged z i [] at, tt)
 
   -- for another note
   abbrev Beside : (i k' : ℕ) → Seen → steps.Step Note WardenDone → Type 0
   Beside i k' z o = Followed n f liar k j (also (packets n i k' o.sends) (warden_event i k' o.next o.outcome) z)
 
   module _ {z : Seen} (i k' : ℕ) (apart : k ≡ k' → ⊥) (at : Followed n f liar k j z) where
-    take_beside : (y x : Note) → Beside i k' z (take_on y x)
-    take_beside y x =
-        cond_both (ltb y.edition x.edition) (record { next = x; sends = One office (Took x.edition); outcome = Done taken }) (record { next = y; sends = One office (Took x.edition); outcome = Refused 2 }) (Beside i k' z)
-        (λ _. stays n f liar k j (says i office k' (Took x.edition) ∷ []) (L.Took i k' x.edition ∷ []) (λ w _ _. means w) (record { begun = refl; ended = refl; took = λ i'. rw (ne_eqb k k' apart) (grind arith) }, tt) (record { asks = refl; retries = refl; by = refl }, tt) at)
-        (λ _. stays n f liar k j (says i office k' (Took x.edition) ∷ []) [] (λ w _ _. means w) tt tt at)
-      where
-        means : (w : World) → AllMean n f liar k j w (says i office k' (Took x.edition) ∷ [])
-        means w = one_sent w (says i office k' (Took x.edition)) (λ _. inr (λ same. absurd (apart (sym same))))
-
     pub warden_beside : (y : Note) (from : ℕ) (m : Message) → Beside i k' z (warden_on y from m)
-    warden_beside y from (Take x) = cond_both (eqb from office) (take_on y x) (refuse y 1) (Beside i k' z) (λ _. take_beside y x) (λ _. at)
-    warden_beside y from (Took e) = at
-    warden_beside y from (Ask r) =
-        stays n f liar k j (says i from k' (Told r y) ∷ []) [] (λ w _ _. one_sent w (says i from k' (Told r y)) (λ _. inr (λ _ _ same. absurd (apart (sym same))))) tt tt at
-    warden_beside y from (Told r x) = at
+    warden_beside y from m = go (warden_case y from m)
+      where
+        took : (x : Note) (w : World) → AllMean n f liar k j w (says i office k' (Took x.edition) ∷ [])
+        took x w = one_sent w (says i office k' (Took x.edition)) (λ _. inr (λ same. absurd (apart (sym same))))
+
+        go : {m : Message} {o : steps.Step Note WardenDone} → WardenCase y from m o → Beside i k' z o
+        go (warden_takes x own late) =
+            stays n f liar k j (says i office k' (Took x.edition) ∷ []) (L.Took i k' x.edition ∷ []) (λ w _ _. took x w) (record { begun = refl; ended = refl; took = λ i'. rw (ne_eqb k k' apart) (grind arith) }, tt) (record { asks = refl; retries = refl; by = refl }, tt) at
+        go (warden_had x own early) = stays n f liar k j (says i office k' (Took x.edition) ∷ []) [] (λ w _ _. took x w) tt tt at
+        go (warden_answers r) = stays n f liar k j (says i from k' (Told r y) ∷ []) [] (λ w _ _. one_sent w (says i from k' (Told r y)) (λ _. inr (λ _ _ same. absurd (apart (sym same))))) tt tt at
+        go warden_passes = at
 
   -- who lies, or is a stranger
   pub lying : {z : Seen} (p : Packet) → ((w : World) → Means n liar k j w p) → Followed n f liar k j z → Followed n f liar k j (also (p ∷ []) [] z)

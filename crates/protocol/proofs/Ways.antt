@@ -1,18 +1,8 @@
 -- Ways of fair moves.
 -- Assumes nothing.
-use Rattle.std.proofs.Common.{◌≡◌, ℕ, Bool, true, false, refl, ap, ◌∙◌, arith}
-use mathlib.Core.Path.{fun_ext}
-use Rattle.register.specs.Count.{put}
-use Rattle.register.specs.Note.{Note}
-use Rattle.register.proofs.Put.{put_all}
+use Rattle.std.proofs.Common.{◌≡◌, ℕ, Bool, true, false, arith}
 use Rattle.protocol.specs.System.{System, Move, Run, then}
 use Rattle.protocol.specs.Progress.{honest, fair, Way, here, next}
-
-pub put_own : {A : Type 0} (i : ℕ) (c : ℕ → A) → put i (c i) c ≡ c
-put_own i c = fun_ext (put_all (λ j a. a ≡ c j) i (c i) c refl (λ _. refl))
-
-pub own_store : (i k : ℕ) (c : ℕ → ℕ → Note) → put i (put k (c i k) (c i)) c ≡ c
-own_store i k c = ap (λ (g : ℕ → Note). put i g c) (put_own k (c i)) ∙ put_own i c
 
 pub honest_so : (liar : ℕ → Bool) (p : ℕ) → liar p ≡ false → honest liar p ≡ true
 honest_so liar p so = grind arith

@@ -1,7 +1,8 @@
 -- The worked cases.
 -- Assumes nothing.
-use Rattle.std.proofs.Common.{◌≡◌, ℕ, zero, suc, List, [], ◌++◌, take, sym, refl, ap, ◌∙◌, append-nil, lit<, lit≤}
+use Rattle.std.proofs.Common.{◌≡◌, ℕ, List, [], ◌++◌, sym, refl, ap, ◌∙◌, append-nil, lit<, lit≤}
 use mathlib.Core.List.Memᴰ
+use lib.Seq.{take-nil}
 use Rattle.protocol.proofs.Cases.{worked}
 use Rattle.protocol_tables.specs.Office.{office_ticks}
 use Rattle.frames.specs.Format.{Frame}
@@ -14,13 +15,9 @@ use Rattle.protocol_files.specs.System.{Found}
 use Rattle.protocol_files.specs.Cases.{case_f, Worked}
 
 -- nothing was pending, so nothing is lost
-take_none : (k : ℕ) → take {A = ℕ} k [] ≡ []
-take_none zero = refl
-take_none (suc k) = refl
-
 kept : (file : File) (bs : List ℕ) (d : Disk) → file ≡ record { synced = bs; pending = [] } → Cut (record { file = file; beside = file; former = [] }) d → contents d.file ≡ bs
-kept file bs d is (left k b) = ap (λ (g : File). contents (keep k g)) is ∙ ap (λ (p : List ℕ). bs ++ p) (take_none k) ∙ append-nil bs
-kept file bs d is (cut k b) = ap (λ (g : File). contents (keep k g)) is ∙ ap (λ (p : List ℕ). bs ++ p) (take_none k) ∙ append-nil bs
+kept file bs d is (left k b) = ap (λ (g : File). contents (keep k g)) is ∙ ap (λ (p : List ℕ). bs ++ p) (take-nil k) ∙ append-nil bs
+kept file bs d is (cut k b) = ap (λ (g : File). contents (keep k g)) is ∙ ap (λ (p : List ℕ). bs ++ p) (take-nil k) ∙ append-nil bs
 kept file bs d is (reverted g m k b) = absurd (Memᴰ.not-nil m)
 
 -- so all records are found, and no others

@@ -1,7 +1,6 @@
 -- What the office is still writing has not been taken by enough wardens, as far as it knows.
 -- Assumes nothing.
 use Rattle.std.proofs.Common.{◌≡◌, ℕ, ◌*◌, ◌<◌, Bool, true, cond, List, [], ◌++◌, arith}
-use borrow.Author.Tests.{clash}
 use Rattle.std.proofs.lemmas.Bool.{cond_both}
 use Rattle.register.proofs.Put.{put_all}
 use Rattle.protocol.specs.Message.{Message}
@@ -10,10 +9,11 @@ use Rattle.protocol.specs.Office.{OfficeDone, Desk, begin_writing, office_on}
 use Rattle.protocol.proofs.Sound.{SoundDesk, too_few, sound_office}
 use Rattle.protocol_tables.specs.Keep.{store}
 use Rattle.protocol_tables.specs.Office.{Office, OfficeStep, counts, ends, without, leave, office_writes, office_hears}
+use Rattle.protocol_tables.proofs.TableCases.{Written, begins_it, refuses, written}
 use Rattle.frames.specs.Format.{Frame}
 use Rattle.protocol_files.specs.Records.{office_of}
 use Rattle.protocol_files.specs.System.{System, Move, writes, office_tick, office_hear, write_stops, hear_stops, office_falls, office_opens, office_scribbles, office_renames, warden_hear, warden_flushes, warden_falls, warden_opens, warden_scribbles, warden_renames, loses, reads, reader_ticks, reader_hears, reader_restarts, lies, Run, begin, then}
-use Rattle.protocol_files.proofs.OfficeSteps.{Written, begins_it, refuses, written, fresh_of}
+use Rattle.protocol_files.proofs.OfficeSteps.{fresh_of}
 
 module _ (n f : ℕ) (liar : ℕ → Bool) (least : 4 * f < n) where
   abbrev SoundOffice : Office → Type 0
@@ -49,12 +49,12 @@ module _ (n f : ℕ) (liar : ℕ → Bool) (least : 4 * f < n) where
   move_sound {s} (writes k v fits on) h up = writes_sound s.office.memory k v (h up)
   move_sound (office_tick on) h up = h up
   move_sound {s} (office_hear p on m to) h up = hears_sound s.office.memory p.from p.note p.message (h up)
-  move_sound (write_stops k v j left fits on) h up = absurd (clash up)
-  move_sound (hear_stops p j left on m to) h up = absurd (clash up)
-  move_sound (office_falls d left fall) h up = absurd (clash up)
+  move_sound (write_stops k v j left fits on) h up = cc
+  move_sound (hear_stops p j left on m to) h up = cc
+  move_sound (office_falls d left fall) h up = cc
   move_sound (office_opens ss ps rest down found) h up = opens_sound (ss ++ ps)
   move_sound (office_scribbles g) h up = h up
-  move_sound (office_renames left anew) h up = absurd (clash up)
+  move_sound (office_renames left anew) h up = cc
   move_sound (warden_hear i p below own on m to) h up = h up
   move_sound (warden_flushes i fs below own on pending records) h up = h up
   move_sound (warden_falls i d left below own fall) h up = h up
@@ -69,5 +69,5 @@ module _ (n f : ℕ) (liar : ℕ → Bool) (least : 4 * f < n) where
   move_sound (lies p so other) h up = h up
 
   pub run_sound : {s : System} → Run n f liar s → s.office.up ≡ true → (k : ℕ) → SoundDesk n f (s.office.memory.desks.at k)
-  run_sound begin up = absurd (clash up)
+  run_sound begin up = cc
   run_sound (then before m) up = move_sound m (run_sound before) up

@@ -21,7 +21,8 @@ each_cut P less {d} (cut k beside) each = one P (less k d.file (each d.file (Mem
 each_cut P less {d} (reverted g at k beside) each = one P (less k g (each g (Memᴰ.tail at)))
 
 pub each_more : (P : File → Type 0) (b g : File) (gs : List File) → P b → Each P g gs → Each P b (g ∷ gs)
-each_more P b g gs p each h at = ⊎_elim (λ (is : h ≡ b). rw is p) (each h) (Memᴰ.cases_cons at)
+each_more P b g gs p each h (Memᴰ.head is) = rw is p
+each_more P b g gs p each h (Memᴰ.tail at) = each h at
 
 pub each_same : (P Q : File → Type 0) (g : File) (gs : List File) → ((h : File) → P h → Q h) → Each P g gs → Each Q g gs
 each_same P Q g gs q each h at = q h (each h at)

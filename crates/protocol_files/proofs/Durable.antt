@@ -2,7 +2,6 @@
 -- Assumes nothing.
 use Rattle.std.proofs.Common.{◌≡◌, ℕ, ◌*◌, ◌<◌, ◌≤◌, Bool, false, ◌⊎◌, List, ◌++◌, sym, refl, ap, ◌∙◌, subst, ⊎_elim, arith}
 use mathlib.Core.List.{Memᴰ}
-use Rattle.std.proofs.lemmas.Bool.{both_ways}
 use Rattle.register.specs.Note.{Note, none}
 use Rattle.register.proofs.Notes.{note_path}
 use Rattle.protocol.specs.Message.{office, Take, Took, Packet}
@@ -34,7 +33,7 @@ said_took : (n f : ℕ) (liar : ℕ → Bool) → 4 * f < n → (u : tables.Syst
 said_took n f liar least u run p e at below own is =
     let (w, _, h) = (F.run_kept n f liar least (T.refines n f liar u run)).followed p.note 0 in
     let says = subst (λ m. Says n liar p.note 0 w p.from p.to p.note m) is (h.bag p at) in
-    ⊎_elim (λ lies. absurd (both_ways (liar p.from) own lies)) (λ low. omega (arith, low refl, (h.warden p.from).high)) (says below)
+    ⊎_elim (λ lies. cc) (λ low. omega (arith, low refl, (h.warden p.from).high)) (says below)
 
 module _ (n f : ℕ) (liar : ℕ → Bool) (least : 4 * f < n) (s : System) {o : Office} {w : ℕ → Keep Note} {b : List Packet} (h : Shown n f liar s o w b) where
   office_keeps : OfficeKeeps s

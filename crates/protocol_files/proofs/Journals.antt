@@ -1,7 +1,8 @@
 -- Files of records: what is found on a file of which a part of the end is lost.
 -- Assumes nothing.
-use Rattle.std.proofs.Common.{◌≡◌, ℕ, zero, suc, List, [], ◌∷◌, ◌++◌, take, sym, refl, ap, ◌∙◌, subst, append_assoc, append-nil}
-use Rattle.std.proofs.lemmas.List.{append_cancel_left}
+use Rattle.std.proofs.Common.{◌≡◌, ℕ, List, [], ◌∷◌, ◌++◌, take, sym, refl, ap, ◌∙◌, subst, append_assoc, append-nil, ⊎_elim, arith}
+use Rattle.std.proofs.lemmas.List.{append_cancel_left, length-take, take-take, take_all}
+use Rattle.std.proofs.lemmas.Bool.{cases_lt}
 use Rattle.frames.specs.Format.{Frame, encode}
 use Rattle.frames.specs.Journal.{Records, encode_all, NoRecord, Splits}
 use Rattle.frames.specs.declared.role.Role.{Role}
@@ -14,11 +15,9 @@ use Rattle.protocol_files.specs.System.{Found}
 pub all_of_it : (r : Role) (fs : List Frame) → Records r fs → Splits r (encode_all fs) fs []
 all_of_it r fs so = record { whole = sym (append-nil (encode_all fs)); records = so; ends = none_in_nothing r }
 
-pub take_less : {A : Type 0} (k j : ℕ) (xs : List A) → (i : ℕ) × (take k (take j xs) ≡ take i xs)
-take_less zero j xs = (0, refl)
-take_less (suc k) zero xs = (0, refl)
-take_less (suc k) (suc j) [] = (0, refl)
-take_less {A} (suc k) (suc j) (x ∷ xs) = let (i, is) = take_less k j xs in (suc i, ap {B = List A} (λ l. x ∷ l) is)
+-- a front of a front is a front
+take_less : {A : Type 0} (k j : ℕ) (xs : List A) → (i : ℕ) × (take k (take j xs) ≡ take i xs)
+take_less k j xs = ⊎_elim (λ below. (k, take-take k j xs (omega arith))) (λ above. (j, take_all k (take j xs) (omega (arith, length-take j xs)))) (cases_lt k j)
 
 -- the records ss are synced on the file, and of ps, which were written after them, the first bytes stand there
 pub record Has (r : Role) (g : File) (ss ps : List Frame) : Type 0 where

@@ -4,7 +4,6 @@
 use Rattle.std.proofs.Common.{◌≡◌, ℕ, zero, suc, ◌^◌, ◌<◌, true, false, eqb, List, [], ◌∷◌, ◌++◌, take, sym, refl, ap, ◌∙◌, subst, arith}
 use mathlib.Core.List.{Memᴰ}
 use lib.Seq.{take-nil}
-use borrow.Author.Tests.{clash}
 use Rattle.std.proofs.lemmas.Bool.{leb-false, eq-eqb, cond-true}
 use Rattle.register.specs.Note.{Note}
 use Rattle.protocol.specs.Message.{office, Take, Packet}
@@ -13,6 +12,8 @@ use Rattle.protocol.specs.Log.{Log}
 use Rattle.protocol.specs.Log as events
 use Rattle.protocol_tables.specs.Office.{Office, empty_office, office_writes}
 use Rattle.protocol_tables.proofs.Orders.{Ordered}
+use Rattle.protocol_tables.proofs.Within.{Within}
+use Rattle.protocol_tables.proofs.TableCases.{Ready, begun_by}
 use Rattle.frames.specs.Format.{Frame, Begun, Ended}
 use Rattle.frames.specs.Journal.{Records, encode_all}
 use Rattle.frames.specs.declared.role.Role.TheVariants as roles
@@ -23,8 +24,7 @@ use Rattle.protocol_files.specs.Nodes.{Node, new_office, with_disk, fallen}
 use Rattle.protocol_files.specs.System.{Found, Writable, Anew}
 use Rattle.protocol_files.proofs.Journals.{Has, sure_only, keeps, known, finds}
 use Rattle.protocol_files.proofs.Disks.{Each, one, first, each_cut, each_more}
-use Rattle.protocol_files.proofs.Takes.{Within}
-use Rattle.protocol_files.proofs.OfficeSteps.{Ready, begun_by, ready_writes, Like, office_replays-++, closed, closes}
+use Rattle.protocol_files.proofs.OfficeSteps.{ready_writes, Like, office_replays-++, closed, closes}
 
 -- DESKS: d by the records that are synced, e without files
 pub record DeskStands (n k : ℕ) (bag : List Packet) (l : Log) (d e : Desk) : Type 0 where
@@ -121,7 +121,7 @@ module _ (n : ℕ) (bag : List Packet) (l : Log) (o : Office) (c : Node Office) 
         base = h.base;
         files = each_cut (OfficeFile h.base o) (λ k g f. record { old = f.old; new = f.new; has = keeps k f.has; means = f.means; waits = f.waits }) fall h.files;
         stands = h.stands;
-        working = λ up. absurd (clash up);
+        working = λ up. cc;
       }
 
   pub office_scribbles : (g : File) → OfficeShows n bag l o (with_disk (with_beside g c.disk) c)
@@ -139,7 +139,7 @@ module _ (n : ℕ) (bag : List Packet) (l : Log) (o : Office) (c : Node Office) 
             (anew.same ∙ ap office_of (known roles.Office anew.old now_file.old anew.read now_file.has.records (sym anew.sure ∙ now_file.has.sure)) ∙ now_file.means))
             h.files;
         stands = h.stands;
-        working = λ up. absurd (clash up);
+        working = λ up. cc;
       }
 
   -- what it finds on its file
@@ -180,7 +180,7 @@ module _ (n : ℕ) (bag : List Packet) (l : Log) (o : Office) (c : Node Office) 
             waits = waits;
           }));
           stands = stands;
-          working = λ up. absurd (clash up);
+          working = λ up. cc;
         }
 
 pub new_shows : (n : ℕ) → OfficeShows n [] [] empty_office new_office
@@ -188,6 +188,6 @@ new_shows n =
     record {
       base = empty_office;
       files = one (OfficeFile empty_office empty_office) (sure_file empty_office [] refl tt refl refl);
-      stands = record { desk = λ k. record { now = refl; busy = λ on. on; ended = λ on. absurd (clash on); sent = λ on. absurd (clash on) }; had = refl; many = refl };
-      working = λ up. absurd (clash up);
+      stands = record { desk = λ k. record { now = refl; busy = λ on. on; ended = λ on. cc; sent = λ on. cc }; had = refl; many = refl };
+      working = λ up. cc;
     }

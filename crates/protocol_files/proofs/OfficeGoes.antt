@@ -1,23 +1,22 @@
 -- A run goes on with what the office with its file does, and its log is good.
 -- Assumes nothing.
-use Rattle.std.proofs.Common.{◌≡◌, ℕ, ◌*◌, ◌<◌, Bool, true, false, cond, List, [], ◌∷◌, ◌++◌, sym, refl, ap, ◌∙◌, subst, append_assoc, append-nil}
+use Rattle.std.proofs.Common.{◌≡◌, ℕ, ◌*◌, ◌<◌, Bool, true, false, List, [], ◌∷◌, ◌++◌, sym, refl, ap, ◌∙◌, subst, append_assoc, append-nil}
 use mathlib.Core.List.{Memᴰ}
 use Rattle.std.proofs.lemmas.Bool.{cond_both}
 use Rattle.protocol.specs.Message.{office, Message, Packet}
-use Rattle.protocol.specs.Step.{Step}
-use Rattle.protocol.specs.Office.{OfficeDone, Desk, office_on}
+use Rattle.protocol.specs.Office.{office_on}
 use Rattle.protocol.specs.Log.{Ended, Log}
 use Rattle.protocol.specs.System.{office_event}
-use Rattle.protocol_tables.specs.Keep.{store}
-use Rattle.protocol_tables.specs.Office.{Office, OfficeStep, Letter, post, counts, ends, without, leave, office_writes, office_hears, office_ticks}
+use Rattle.protocol_tables.specs.Office.{Office, OfficeStep, Letter, post, ends, office_writes, office_hears}
+use Rattle.protocol_tables.proofs.Room.{no_letters}
 use Rattle.frames.specs.Format.{Frame}
 use Rattle.frames.specs.Journal.{Records, encode_all, Splits}
 use Rattle.frames.specs.declared.role.Role.TheVariants as roles
 use Rattle.frames.proofs.Files.{once}
 use Rattle.protocol_files.specs.Disk.{File, Disk, contents, with_beside, rename, Cut}
 use Rattle.protocol_files.specs.Records.{office_of, began_by, began_all}
-use Rattle.protocol_files.specs.Nodes.{Node, with_disk, fallen, opened, recorded, stopped}
-use Rattle.protocol_files.specs.System.{System, has_ended, ended_news, office_news, unsure_news, with_office, Writable, writes, office_tick, office_hear, write_stops, hear_stops, office_falls, office_opens, office_scribbles, office_renames, Run, then}
+use Rattle.protocol_files.specs.Nodes.{Node, fallen, opened, recorded, stopped}
+use Rattle.protocol_files.specs.System.{System, has_ended, ended_news, office_news, unsure_news, with_office, Writable, writes, office_hear, write_stops, hear_stops, office_falls, office_opens, office_scribbles, office_renames, Run, then}
 use Rattle.protocol_files.specs.Runs.{OfficeGoesOn}
 use Rattle.protocol_files.proofs.Journals.{all_of_it, known, found_in, found_all}
 use Rattle.protocol_files.proofs.Sound.{good_run, sound_office}
@@ -41,14 +40,6 @@ pub began_front : (fs : List Frame) (l : Log) → Front l (began_all fs l)
 began_front [] l = ([], refl)
 began_front (f ∷ fs) l = let (more, is) = began_front fs (began_by f ++ l) in (more ++ began_by f, is ∙ sym (append_assoc more (began_by f) l))
 
--- when something comes to it, it sends nothing
-hears_quiet : (n f : ℕ) (o : Office) (from k : ℕ) (m : Message) → (office_hears n f o from k m).letters ≡ []
-hears_quiet n f o from k m =
-    cond_both (counts st.outcome) (record { next = record { desks = store k st.next o.desks; under_way = cond (ends st.outcome) (without k o.under_way) o.under_way }; letters = []; outcome = st.outcome }) (leave o st.outcome) (λ (s : OfficeStep). s.letters ≡ []) (λ _. refl) (λ _. refl)
-  where
-    st : Step Desk OfficeDone
-    st = office_on n f (o.desks.at k) from m
-
 module _ (n f : ℕ) (liar : ℕ → Bool) (s : System) (least : 4 * f < n) (run : Run n f liar s) where
   grows : (c : Node Office) (bag : List Packet) (now : Log) → Front s.log now → Run n f liar (record { office = c; warden = s.warden; reader = s.reader; bag = bag; log = now }) → OfficeGoesOn n f liar s c bag
   grows c bag now (more, is) at =
@@ -59,9 +50,6 @@ module _ (n f : ℕ) (liar : ℕ → Bool) (s : System) (least : 4 * f < n) (run
 
   pub office_stays_on : OfficeGoesOn n f liar s s.office s.bag
   office_stays_on = goes_on s.office run
-
-  pub office_scribbles_on : (g : File) → OfficeGoesOn n f liar s (with_disk (with_beside g s.office.disk) s.office) s.bag
-  office_scribbles_on g = goes_on (with_disk (with_beside g s.office.disk) s.office) (then run (office_scribbles g))
 
   pub office_falls_on : (e : Disk) (m : Office) → Cut s.office.disk e → OfficeGoesOn n f liar s (fallen e m) s.bag
   office_falls_on e m fall = goes_on (fallen e m) (then run (office_falls e m fall))
@@ -77,16 +65,13 @@ module _ (n f : ℕ) (liar : ℕ → Bool) (s : System) (least : 4 * f < n) (run
       let o = office_writes s.office.memory k v in
       grows (stopped k o j m s.office) s.bag (unsure_news k o s.log) (unsure_front k o s.log) (then run (write_stops k v j m fits up))
 
-  pub office_ticks_on : s.office.up ≡ true → OfficeGoesOn n f liar s s.office (post n (office_ticks s.office.memory).letters s.bag)
-  office_ticks_on up = grows s.office (post n (office_ticks s.office.memory).letters s.bag) s.log ([], refl) (then run (office_tick up))
-
   module _ (from k : ℕ) (m : Message) (up : s.office.up ≡ true) (at : Memᴰ (record { from = from; to = office; note = k; message = m }) s.bag) where
     abbrev heard : OfficeStep
     heard = office_hears n f s.office.memory from k m
 
     pub office_hears_on : OfficeGoesOn n f liar s (recorded k heard s.office) s.bag
     office_hears_on =
-        subst (λ (ls : List Letter). OfficeGoesOn n f liar s (recorded k heard s.office) (post n ls s.bag)) (hears_quiet n f s.office.memory from k m)
+        subst (λ (ls : List Letter). OfficeGoesOn n f liar s (recorded k heard s.office) (post n ls s.bag)) (no_letters s.office.memory k (office_on n f (s.office.memory.desks.at k) from m))
         (grows (recorded k heard s.office) (post n heard.letters s.bag) (office_news k heard s.log) (news_front k heard s.log) (then run (office_hear (record { from = from; to = office; note = k; message = m }) up at refl)))
 
     pub office_hear_stops_on : (j : ℕ) (left : Office) → OfficeGoesOn n f liar s (stopped k heard j left s.office) s.bag

@@ -2,14 +2,14 @@
 -- Assumes nothing.
 use Rattle.std.proofs.Common.{◌≡◌, ℕ, ◌*◌, ◌^◌, ◌<◌, Bool, true, false, List, [], ◌∷◌, take, sym, refl, ap, ◌∙◌, subst, ⊎_elim, arith}
 use mathlib.Core.List.{Memᴰ}
-use borrow.Author.Tests.{clash}
-use Rattle.std.proofs.lemmas.Bool.{both_ways, cases_Bool, cond-true, cond-false, cases_eq, ne_eqb}
+use Rattle.std.proofs.lemmas.Bool.{both_ways, cases_Bool, false_from_ne_true, cond-true, cond-false, ne_eqb}
 use Rattle.register.specs.Note.{Note}
-use Rattle.register.proofs.Put.{put_all, put_both, put_same}
-use Rattle.protocol.specs.Message.{office, Packet}
+use Rattle.register.proofs.Put.{put_at, put_all, put_both, put_same}
+use Rattle.protocol.specs.Message.{office, Message, Packet}
 use Rattle.protocol.specs.Step.{Step, quiet}
 use Rattle.protocol.specs.Office.{OfficeDone, counted, ended, Desk, acknowledge, close, office_on}
 use Rattle.protocol.specs.Log.{Ended, Log}
+use Rattle.protocol.proofs.PartyCases.{OfficeCase, took_counts, took_ends, office_passes, office_case}
 use Rattle.protocol_tables.specs.Keep.{Keep}
 use Rattle.protocol_tables.specs.Office.{Office, keep_counting, office_hears}
 use Rattle.protocol_tables.specs.System as tables
@@ -19,7 +19,7 @@ use Rattle.frames.specs.Format as frames
 use Rattle.frames.specs.Journal.{encode_all}
 use Rattle.protocol_files.specs.Disk.{append, sync}
 use Rattle.protocol_files.specs.System.{System, has_ended, ended_news, by_office, office_stops}
-use Rattle.protocol_files.proofs.OfficeSteps.{Counted, passes, counts_it, ends_it, counted_by, Like, like_stored, like_kept, closed}
+use Rattle.protocol_files.proofs.OfficeSteps.{Like, like_stored, like_kept, closed}
 use Rattle.protocol_files.proofs.OfficeFiles.{Stands, stands_more, Waits, idle, stops, OfficeUp, OfficeShows, ended_means, now_file}
 use Rattle.protocol_files.proofs.OfficeFiles as O
 use Rattle.protocol_files.proofs.OfficeStands.{stands_kept, stands_closed, ended_there, ended_so, news_fits}
@@ -65,7 +65,7 @@ module _ (n f : ℕ) (liar : ℕ → Bool) (least : 4 * f < n) (s : System) {o :
         then = next;
         run = subst (λ (l : Log). tables.Run n f liar (record { office = next; warden = w; reader = s.reader; bag = b; log = l })) (sym news) run;
         stands = subst (λ (l : Log). Stands n b l base next) (sym news) (stands_kept (stands_more (λ p at. at) (λ x at. Memᴰ.tail at) h.office.stands) k (close more) next.under_way (had_busy n f liar s least h k (base_on on))
-            (record { now = sym (work.like.desk k).now; busy = λ so. absurd (clash so); ended = λ _ _. Memᴰ.head (ap (λ (y : Note). Ended k y.edition) (sym (work.like.desk k).now)); sent = λ so. (h.office.stands.desk k).sent so }));
+            (record { now = sym (work.like.desk k).now; busy = λ so. cc; ended = λ _ _. Memᴰ.head (ap (λ (y : Note). Ended k y.edition) (sym (work.like.desk k).now)); sent = λ so. (h.office.stands.desk k).sent so }));
         off = ap (λ (e : Desk). e.busy) (put_same k (close more) o.desks.at);
         had = put_same k true o.desks.had;
         others = λ j apart. rw (ne_eqb j k apart);
@@ -78,7 +78,7 @@ module _ (n f : ℕ) (liar : ℕ → Bool) (least : 4 * f < n) (s : System) {o :
       run = subst (λ (e : Desk). tables.Run n f liar (record { office = next; warden = w; reader = s.reader; bag = b; log = Ended k e.now.edition ∷ s.log })) (put_same k (close more) o.desks.at) (runs busy)
 
       first_time : has_ended k d.now.edition s.log ≡ false
-      first_time = ⊎_elim (λ (so : has_ended k d.now.edition s.log ≡ true). absurd ((T.holds n f liar least (record { office = next; warden = w; reader = s.reader; bag = b; log = Ended k d.now.edition ∷ s.log }) run [] s.log (Ended k d.now.edition) refl).once (ended_there k d.now.edition s.log so))) (λ off. off) (cases_Bool (has_ended k d.now.edition s.log))
+      first_time = false_from_ne_true (has_ended k d.now.edition s.log) (λ so. (T.holds n f liar least (record { office = next; warden = w; reader = s.reader; bag = b; log = Ended k d.now.edition ∷ s.log }) run [] s.log (Ended k d.now.edition) refl).once (ended_there k d.now.edition s.log so))
 
       news : ended_news k d.now.edition s.log ≡ Ended k d.now.edition ∷ s.log
       news = cond-false (has_ended k d.now.edition s.log) s.log (Ended k d.now.edition ∷ s.log) first_time
@@ -131,13 +131,13 @@ module _ (n f : ℕ) (liar : ℕ → Bool) (least : 4 * f < n) (s : System) {o :
       here : (o.desks.at k).busy ≡ true → Followed n f liar (by_office n k (keep_counting m k (quiet more counted)) s)
       here busy =
           after (keep_counting o k (quiet more counted)).next (runs busy)
-          (stands_kept h.office.stands k more o.under_way had (record { now = sym (work.like.desk k).now; busy = λ _. base_on on; ended = λ _ off. absurd (both_ways d.busy off on); sent = (h.office.stands.desk k).sent }))
+          (stands_kept h.office.stands k more o.under_way had (record { now = sym (work.like.desk k).now; busy = λ _. base_on on; ended = λ _ off. cc; sent = (h.office.stands.desk k).sent }))
           (put_both (λ _ (d e : Desk). e.busy ≡ true → d ≡ e) k more more m.desks.at o.desks.at (λ _. refl) work.same)
 
       there : (o.desks.at k).busy ≡ false → Followed n f liar (by_office n k (keep_counting m k (quiet more counted)) s)
       there off =
           after o h.run h.office.stands
-          (put_all (λ j (e : Desk). (o.desks.at j).busy ≡ true → e ≡ o.desks.at j) k more m.desks.at (λ so. absurd (both_ways (o.desks.at k).busy off so)) work.same)
+          (put_all (λ j (e : Desk). (o.desks.at j).busy ≡ true → e ≡ o.desks.at j) k more m.desks.at (λ so. cc) work.same)
 
   -- A WRITING HAS COME TO AN END
   ends_on : d.busy ≡ true → Runs (quiet (close more) ended) → Ordered (keep_counting m k (quiet (close more) ended)).next → Followed n f liar (by_office n k (keep_counting m k (quiet (close more) ended)) s)
@@ -160,10 +160,9 @@ module _ (n f : ℕ) (liar : ℕ → Bool) (least : 4 * f < n) (s : System) {o :
 
       same : (j : ℕ) → (r.then.desks.at j).busy ≡ true → next.desks.at j ≡ r.then.desks.at j
       same j so =
-          ⊎_elim
-          (λ (is : j ≡ k). absurd (both_ways (r.then.desks.at k).busy r.off (subst (λ (j : ℕ). (r.then.desks.at j).busy ≡ true) is so)))
-          (λ apart. rw (ne_eqb j k apart) (work.same j (ap (λ (e : Desk). e.busy) (sym (r.others j apart)) ∙ so) ∙ sym (r.others j apart)))
-          (cases_eq j k)
+          put_at (λ e. e ≡ r.then.desks.at j) j k (close more) m.desks.at
+          (λ is. absurd (both_ways (r.then.desks.at k).busy r.off (rw is at so)))
+          (λ apart. work.same j (ap (λ (e : Desk). e.busy) (sym (r.others j apart)) ∙ so) ∙ sym (r.others j apart))
 
   -- nothing is recorded, and it goes on as it was
   passes_on : Followed n f liar (record { office = record { disk = sync (append [] s.office.disk); up = s.office.up; memory = m }; warden = s.warden; reader = s.reader; bag = s.bag; log = s.log })
@@ -171,10 +170,10 @@ module _ (n f : ℕ) (liar : ℕ → Bool) (least : 4 * f < n) (s : System) {o :
       office_changes n f liar s (record { disk = sync (append [] s.office.disk); up = s.office.up; memory = m }) o s.bag b s.log h h.run h.bag (λ p at. at) h.fits
       (as_it_is n f liar s o b s.log h.office up o m h.office.stands work.like work.order work.same)
 
-  pub hears_step : {st : Step Desk OfficeDone} → Counted d from st → Runs st → Ordered (keep_counting m k st).next → Followed n f liar (by_office n k (keep_counting m k st) s)
-  hears_step (passes e) runs order = passes_on
-  hears_step (counts_it on) runs order = counts_on on runs order
-  hears_step (ends_it on) runs order = ends_on on runs order
+  pub hears_step : {p : Message} {st : Step Desk OfficeDone} → OfficeCase n f d from p st → Runs st → Ordered (keep_counting m k st).next → Followed n f liar (by_office n k (keep_counting m k st) s)
+  hears_step (office_passes e) runs order = passes_on
+  hears_step (took_counts below on short) runs order = counts_on on runs order
+  hears_step (took_ends below on all) runs order = ends_on on runs order
 
   -- IT STOPS THERE
   nothing_pends : (j : ℕ) (left : Office) → Followed n f liar (record { office = record { disk = append (take j []) s.office.disk; up = false; memory = left }; warden = s.warden; reader = s.reader; bag = s.bag; log = s.log })
@@ -193,10 +192,10 @@ module _ (n f : ℕ) (liar : ℕ → Bool) (least : 4 * f < n) (s : System) {o :
       r : Over
       r = over on runs
 
-  pub stops_step : (j : ℕ) (left : Office) {st : Step Desk OfficeDone} → Counted d from st → Runs st → Followed n f liar (office_stops k (keep_counting m k st) j left s)
-  stops_step j left (passes e) runs = nothing_pends j left
-  stops_step j left (counts_it on) runs = nothing_pends j left
-  stops_step j left (ends_it on) runs = end_pends j left on runs
+  pub stops_step : (j : ℕ) (left : Office) {p : Message} {st : Step Desk OfficeDone} → OfficeCase n f d from p st → Runs st → Followed n f liar (office_stops k (keep_counting m k st) j left s)
+  stops_step j left (office_passes e) runs = nothing_pends j left
+  stops_step j left (took_counts below on short) runs = nothing_pends j left
+  stops_step j left (took_ends below on all) runs = end_pends j left on runs
 
 module _ (n f : ℕ) (liar : ℕ → Bool) (least : 4 * f < n) (s : System) (p : Packet) (up : s.office.up ≡ true) (at : Memᴰ p s.bag) (to : p.to ≡ office) where
   -- the same desk does the same
@@ -207,8 +206,8 @@ module _ (n f : ℕ) (liar : ℕ → Bool) (least : 4 * f < n) (s : System) (p :
 
   pub hears : Followed n f liar s → Followed n f liar (by_office n p.note (office_hears n f s.office.memory p.from p.note p.message) s)
   hears (o, w, b, h) =
-      hears_step n f liar least s h up p.note p.from (counted_by n f (s.office.memory.desks.at p.note) p.from p.message) (runs h) (hear_ordered s.office.memory (h.office.working up).order p.note n f p.from p.message)
+      hears_step n f liar least s h up p.note p.from (office_case n f (s.office.memory.desks.at p.note) p.from p.message) (runs h) (hear_ordered s.office.memory (h.office.working up).order p.note n f p.from p.message)
 
   pub hear_stops : (j : ℕ) (left : Office) → Followed n f liar s → Followed n f liar (office_stops p.note (office_hears n f s.office.memory p.from p.note p.message) j left s)
   hear_stops j left (o, w, b, h) =
-      stops_step n f liar least s h up p.note p.from j left (counted_by n f (s.office.memory.desks.at p.note) p.from p.message) (runs h)
+      stops_step n f liar least s h up p.note p.from j left (office_case n f (s.office.memory.desks.at p.note) p.from p.message) (runs h)

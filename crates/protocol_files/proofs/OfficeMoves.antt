@@ -16,7 +16,9 @@ use Rattle.protocol_tables.specs.Office.{Office, OfficeStep, Letter, office_writ
 use Rattle.protocol_tables.specs.System as tables
 use Rattle.protocol_tables.proofs.Orders.{Ordered, write_ordered}
 use Rattle.protocol_tables.proofs.Lifts.{in_post}
-use Rattle.protocol_tables.proofs.Room.{run_fits, of_post, again_had}
+use Rattle.protocol_tables.proofs.Room.{run_fits, of_post}
+use Rattle.protocol_tables.proofs.Within.{Within, within_more}
+use Rattle.protocol_tables.proofs.TableCases.{Ready, begun_by, Written, begins_it, refuses, written}
 use Rattle.frames.specs.Format.{Frame, Begun, Ended}
 use Rattle.frames.specs.Journal.{Records, encode_all}
 use Rattle.frames.specs.declared.role.Role.TheVariants as roles
@@ -25,13 +27,12 @@ use Rattle.protocol_files.specs.Records.{office_of}
 use Rattle.protocol_files.specs.Nodes.{Node, opened}
 use Rattle.protocol_files.specs.System.{System, by_office, office_posts, office_stops, office_opened, Found, Writable}
 use Rattle.protocol_files.proofs.Disks.{one}
-use Rattle.protocol_files.proofs.Takes.{Within}
 use Rattle.protocol_files.proofs.WardenFiles.{warden_more}
-use Rattle.protocol_files.proofs.OfficeSteps.{Ready, begun_by, Written, begins_it, refuses, written, ready_writes, Like, alike, like_ready, like_stored, fresh_of, closed}
+use Rattle.protocol_files.proofs.OfficeSteps.{ready_writes, Like, alike, like_ready, like_stored, fresh_of, closed}
 use Rattle.protocol_files.proofs.OfficeFiles.{Stands, Waits, idle, starts, stops, start_fits, OfficeFile, OfficeUp, OfficeShows, sure_file, begun_means, ended_means, now_file, office_finds}
 use Rattle.protocol_files.proofs.OfficeFiles as O
 use Rattle.protocol_files.proofs.OfficeStands.{stands_ready, stands_begun, stands_closed, stands_forgetful}
-use Rattle.protocol_files.proofs.Shown.{LogFits, plain, within_more, Shown, Followed}
+use Rattle.protocol_files.proofs.Shown.{LogFits, plain, Shown, Followed}
 
 module _ (n f : ℕ) (liar : ℕ → Bool) (s : System) where
   -- only the office has changed, without files too
@@ -63,12 +64,12 @@ module _ (n f : ℕ) (liar : ℕ → Bool) (s : System) where
       st = begin_writing (h.office.base.desks.at k) v
 
   begun_fits : {o : Office} {w : ℕ → Keep Note} {b : List Packet} (h : Shown n f liar s o w b) (k : ℕ) (v : List ℕ) → Writable k v → Ready h.office.base k → LogFits (Began k (begin_writing (h.office.base.desks.at k) v).next.now.edition v ∷ s.log)
-  begun_fits h k v fits ready k' e' v' at =
-      ⊎_elim (λ (is : Began k' e' v' ≡ Began k (begin_writing (h.office.base.desks.at k) v).next.now.edition v).
+  begun_fits h k v fits ready k' e' v' (Memᴰ.head is) =
       let a : k' ≡ k = cc in
       let b : e' ≡ (begin_writing (h.office.base.desks.at k) v).next.now.edition = cc in
       let c : v' ≡ v = cc in
-      rw (a, b, c) (start_fits v fits ready).0.0) (h.fits k' e' v') (Memᴰ.cases_cons at)
+      rw (a, b, c) (start_fits v fits ready).0.0
+  begun_fits h k v fits ready k' e' v' (Memᴰ.tail at) = h.fits k' e' v' at
 
   module _ (k : ℕ) (v : List ℕ) (fits : Writable k v) (up : s.office.up ≡ true) where
     -- it begins by the note that its records ask for
@@ -156,8 +157,8 @@ module _ (n f : ℕ) (liar : ℕ → Bool) (s : System) where
 
       again_sent : (p : Packet) → (l : Letter) × Memᴰ l (map (again m.desks) m.under_way) × Memᴰ p (packets n office l.note l.sends) → Memᴰ p b
       again_sent p (l, listed, at) =
-          let (k, under_way, is) = again_had m.desks m.under_way l listed in
-          let (i, below, same) = of_each n (λ i. record { from = office; to = i; note = k; message = Take (m.desks.at k).now }) p (subst (λ (l : Letter). Memᴰ p (packets n office l.note l.sends)) is at) in
+          let (k, under_way, is) = Memᴰ.of_map (again m.desks) m.under_way listed in
+          let (i, below, same) = of_each n (λ i. record { from = office; to = i; note = k; message = Take (m.desks.at k).now }) p (subst (λ (l : Letter). Memᴰ p (packets n office l.note l.sends)) (sym is) at) in
           subst (λ (q : Packet). Memᴰ q b) (sym same)
           (subst (λ (y : Note). Memᴰ (record { from = office; to = i; note = k; message = Take y }) b) (sym (work.like.desk k).now)
           ((h.office.stands.desk k).sent (sym (work.like.desk k).busy ∙ work.order.busy k under_way) i below))

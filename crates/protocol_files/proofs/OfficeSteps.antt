@@ -1,67 +1,21 @@
 -- What the office does when it is told to write and when a message comes, and which offices do the same.
 -- Assumes nothing.
-use Rattle.std.proofs.Common.{◌≡◌, ℕ, suc, Bool, true, false, not, ◌&&◌, ◌||◌, eqb, ltb, leb, List, [], ◌∷◌, ◌++◌, sym, refl, ap, ◌∙◌}
-use mathlib.Core.Path.{fun_ext}
-use Rattle.std.proofs.lemmas.Bool.{cond_both, cond-true, or_parts, and_parts, eq-eqb}
-use Rattle.register.specs.Count.{count, put}
-use Rattle.register.specs.Rule.{quorum}
-use Rattle.register.proofs.Put.{put_all, put_both}
-use Rattle.protocol.specs.Message.{Message, Take, Took, Ask, Told}
-use Rattle.protocol.specs.Step.{Step, Refused, quiet, refuse}
-use Rattle.protocol.specs.Office.{OfficeDone, counted, ended, Desk, last_edition, begin_writing, acknowledge, close, settle, awaits_took, took_on, office_on}
+use Rattle.std.proofs.Common.{◌≡◌, ℕ, suc, true, false, ◌&&◌, eqb, List, [], ◌∷◌, ◌++◌, sym, refl, ap, ◌∙◌}
+use Rattle.std.proofs.lemmas.Bool.{cond_both, cond-true, eq-eqb}
+use Rattle.register.specs.Count.{put}
+use Rattle.register.proofs.Put.{put_all, put_both, put_idle}
+use Rattle.protocol.specs.Office.{Desk, begin_writing, close}
 use Rattle.protocol_tables.specs.Keep.{Keep, room, store}
-use Rattle.protocol_tables.specs.Office.{Office, OfficeStep, empty_office, leave, without, keep_writing, office_writes, close_writing}
+use Rattle.protocol_tables.specs.Office.{Office, OfficeStep, empty_office, without, office_writes, close_writing}
 use Rattle.protocol_tables.proofs.Orders.{Ordered, empty_ordered, write_ordered, ended_ordered}
+use Rattle.protocol_tables.proofs.TableCases.{Ready, begun_by, Written, begins_it, refuses, written}
 use Rattle.frames.specs.Format.{Frame, Sent, Begun, Ended}
 use Rattle.protocol_files.specs.Records.{office_replays, office_replays_all, office_of}
 
 -- TOLD TO WRITE
--- a writing of k may begin
-pub record Ready (a : Office) (k : ℕ) : Type 0 where
-  pub idle : (a.desks.at k).busy ≡ false
-  pub low : leb last_edition (a.desks.at k).now.edition ≡ false
-  pub roomy : room k a.desks ≡ true
-
--- it begins, by that step
-abbrev pub begun_by : Office → (k : ℕ) → Step Desk OfficeDone → OfficeStep
-begun_by a k st =
-    record { next = record { desks = store k st.next a.desks; under_way = a.under_way ++ (k ∷ []) }; letters = record { note = k; sends = st.sends } ∷ []; outcome = st.outcome }
-
-pub data Written (a : Office) (k : ℕ) (v : List ℕ) : OfficeStep → Type 0 where
-  begins_it : Ready a k → Written a k v (begun_by a k (begin_writing (a.desks.at k) v))
-  refuses : (m : ℕ) → Written a k v (leave a (Refused m))
-
-pub written : (a : Office) (k : ℕ) (v : List ℕ) → Written a k v (office_writes a k v)
-written a k v =
-    cond_both (d.busy || leb last_edition d.now.edition) (refuse d 5) (begin_writing d v) (λ (st : Step Desk OfficeDone). Written a k v (keep_writing a k st))
-    (λ _. refuses 5)
-    (λ free. let (idle, low) = or_parts d.busy (leb last_edition d.now.edition) free in
-    cond_both (room k a.desks) (begun_by a k (begin_writing d v)) (leave a (Refused 6)) (Written a k v) (λ roomy. begins_it (record { idle = idle; low = low; roomy = roomy })) (λ _. refuses 6))
-  where
-    d : Desk
-    d = a.desks.at k
-
 -- an office whose desk has the same note, and that is ready, begins by the same step
 pub ready_writes : (a : Office) (k : ℕ) (v : List ℕ) (d : Desk) → Ready a k → (a.desks.at k).now ≡ d.now → office_writes a k v ≡ begun_by a k (begin_writing d v)
 ready_writes a k v d h now = rw (h.idle, h.low, h.roomy, now)
-
--- A MESSAGE COMES
-pub data Counted (d : Desk) (from : ℕ) : Step Desk OfficeDone → Type 0 where
-  passes : (e : ℕ) → Counted d from (refuse d e)
-  counts_it : d.busy ≡ true → Counted d from (quiet (acknowledge from d) counted)
-  ends_it : d.busy ≡ true → Counted d from (quiet (close (acknowledge from d)) ended)
-
-pub counted_by : (n f : ℕ) (d : Desk) (from : ℕ) (m : Message) → Counted d from (office_on n f d from m)
-counted_by n f d from (Take x) = passes 1
-counted_by n f d from (Took e) =
-    cond_both (ltb from n) (took_on n f d from e) (refuse d 1) (Counted d from)
-    (λ _. cond_both (awaits_took from e d) (settle n f (acknowledge from d)) (refuse d 4) (Counted d from)
-    (λ so. let (busy, _) = and_parts d.busy (eqb e d.now.edition && not (d.acks from)) so in
-    cond_both (quorum n f (count n (acknowledge from d).acks)) (quiet (close (acknowledge from d)) ended) (quiet (acknowledge from d) counted) (Counted d from) (λ _. ends_it busy) (λ _. counts_it busy))
-    (λ _. passes 4))
-    (λ _. passes 1)
-counted_by n f d from (Ask r) = passes 1
-counted_by n f d from (Told r x) = passes 1
 
 -- OFFICES THAT ARE ALIKE, but for whom they have counted
 pub record DeskLike (d e : Desk) : Type 0 where
@@ -88,13 +42,10 @@ pub like_stored : {a b : Office} (k : ℕ) (d e : Desk) (us vs : List ℕ) → D
 like_stored {a} {b} k d e us vs same h =
     record { desk = put_both (λ _ d e. DeskLike d e) k d e a.desks.at b.desks.at same h.desk; had = ap (put k true) h.had; many = rw (h.had, h.many) }
 
-pub put_idle : (k : ℕ) (g : ℕ → Bool) → g k ≡ true → put k true g ≡ g
-put_idle k g is = fun_ext (put_all (λ j b. b ≡ g j) k true g (sym is) (λ _. refl))
-
 -- one of them has a new desk for a note that it had
 pub like_kept : {a b : Office} (k : ℕ) (d : Desk) (us : List ℕ) → a.desks.had k ≡ true → DeskLike d (b.desks.at k) → Like a b → Like (record { desks = store k d a.desks; under_way = us }) b
 like_kept {a} {b} k d us had same h =
-    record { desk = put_all (λ j d. DeskLike d (b.desks.at j)) k d a.desks.at same h.desk; had = put_idle k a.desks.had had ∙ h.had; many = cond-true (a.desks.had k) a.desks.many (suc a.desks.many) had ∙ h.many }
+    record { desk = put_all (λ j d. DeskLike d (b.desks.at j)) k d a.desks.at same h.desk; had = put_idle k true a.desks.had had ∙ h.had; many = cond-true (a.desks.had k) a.desks.many (suc a.desks.many) had ∙ h.many }
 
 -- WHAT RECORDS MEAN
 pub office_replays-++ : (o : Office) (fs gs : List Frame) → office_replays_all o (fs ++ gs) ≡ office_replays_all (office_replays_all o fs) gs

@@ -5,7 +5,7 @@ use mathlib.Core.List.Memᴰ
 use mathlib.Core.List.{Memᴰ}
 use Rattle.register.specs.Note.{Note}
 use Rattle.register.proofs.Put.{put_same}
-use Rattle.protocol.specs.Message.{office, Take, Packet, Each, packets}
+use Rattle.protocol.specs.Message.{office, Message, Take, Packet, Each, packets}
 use Rattle.protocol.specs.Step.{Step}
 use Rattle.protocol.specs.Office.{OfficeDone, Desk, begin_writing}
 use Rattle.protocol.specs.Reader.{asked, more_rounds, ReaderDone, Reader, read_on, reader_tick, reader_on}
@@ -14,14 +14,15 @@ use Rattle.protocol.specs.Warden.{WardenDone}
 use Rattle.protocol.specs.System as P
 use Rattle.protocol.proofs.Follows as F
 use Rattle.protocol.proofs.Packets.{of_each}
+use Rattle.protocol.proofs.PartyCases.{OfficeCase, took_counts, took_ends, office_passes, office_case}
 use Rattle.protocol_tables.specs.Keep.{Keep}
 use Rattle.protocol_tables.specs.Warden.{warden_keeps}
 use Rattle.protocol_tables.specs.Office.{OfficeStep, Letter, post, keep_counting, again, office_ticks}
 use Rattle.protocol_tables.specs.System.{System, by_office, by_reader, Move, writes, office_tick, office_hear, warden_hear, reads, reader_ticks, reader_hears, office_restarts, reader_restarts, lies, loses, Run, begin, then}
 use Rattle.protocol_tables.proofs.Refines.{refines, run_kept}
-use Rattle.protocol_tables.proofs.Room.{brings, plain_sends, warden_plain, Asks, asks_plain, round_asks, tick_asks, reader_asks, of_post, again_had}
-use Rattle.protocol_files.proofs.Takes.{Within}
-use Rattle.protocol_files.proofs.OfficeSteps.{Written, begins_it, refuses, written, Counted, passes, counts_it, ends_it, counted_by}
+use Rattle.protocol_tables.proofs.Room.{brings, plain_sends, warden_plain, Asks, asks_plain, round_asks, tick_asks, reader_asks, of_post}
+use Rattle.protocol_tables.proofs.Within.{Within}
+use Rattle.protocol_tables.proofs.TableCases.{Written, begins_it, refuses, written}
 
 -- each note that was sent to be taken has begun
 abbrev pub Posted : List Packet → Log → Type 0
@@ -58,18 +59,18 @@ module _ (n f : ℕ) (liar : ℕ → Bool) (least : 4 * f < n) where
       (Memᴰ.append_cases (packets n office k (Each (Take (begin_writing (s.office.desks.at k) v).next.now))) at)
   writes_posted s k v (refuses m) h = h
 
-  hears_posted : (s : System) (k from : ℕ) {st : Step Desk OfficeDone} → Counted (s.office.desks.at k) from st → Kept s → Kept (by_office n k (keep_counting s.office k st) s)
-  hears_posted s k from (passes e) h = h
-  hears_posted s k from (counts_it busy) h = h
-  hears_posted s k from (ends_it busy) h = λ p x at from_office is. Memᴰ.tail (h p x at from_office is)
+  hears_posted : (s : System) (k from : ℕ) {m : Message} {st : Step Desk OfficeDone} → OfficeCase n f (s.office.desks.at k) from m st → Kept s → Kept (by_office n k (keep_counting s.office k st) s)
+  hears_posted s k from (office_passes e) h = h
+  hears_posted s k from (took_counts below busy short) h = h
+  hears_posted s k from (took_ends below busy all) h = λ p x at from_office is. Memᴰ.tail (h p x at from_office is)
 
   ticks_posted : (s : System) → Run n f liar s → Kept s → Posted (post n (office_ticks s.office).letters s.bag) s.log
   ticks_posted s run h p x at from is = ⊎_elim (λ at. h p x at from is) again_posted (of_post n (office_ticks s.office).letters s.bag p at)
     where
       again_posted : (l : Letter) × Memᴰ l (map (again s.office.desks) s.office.under_way) × Memᴰ p (packets n office l.note l.sends) → Memᴰ (Began p.note x.edition x.value) s.log
       again_posted (l, listed, at) =
-          let (k, under_way, same) = again_had s.office.desks s.office.under_way l listed in
-          posted_each n k (s.office.desks.at k).now (began_busy run k ((run_kept n f liar run).order.busy k under_way)) p x (subst (λ (l : Letter). Memᴰ p (packets n office l.note l.sends)) same at) is
+          let (k, under_way, same) = Memᴰ.of_map (again s.office.desks) s.office.under_way listed in
+          posted_each n k (s.office.desks.at k).now (began_busy run k ((run_kept n f liar run).order.busy k under_way)) p x (subst (λ (l : Letter). Memᴰ p (packets n office l.note l.sends)) (sym same) at) is
 
   reader_posted : (s : System) (j : ℕ) (o : Step Reader ReaderDone) → Asks o.sends → Kept s → Kept (by_reader n j o s)
   reader_posted s j o asks h = posted_more (packets n j o.next.note o.sends) (λ p at so _. plain_sends n j o.next.note o.sends (asks_plain o.sends asks) p at so) (λ x at. Memᴰ.append_right (P.reader_event j o.next o.outcome) at) h
@@ -77,7 +78,7 @@ module _ (n f : ℕ) (liar : ℕ → Bool) (least : 4 * f < n) where
   posted_by : {s t : System} → Move n f liar s t → Run n f liar s → Kept s → Kept t
   posted_by {s} (writes k v) run h = writes_posted s k v (written s.office k v) h
   posted_by {s} office_tick run h = ticks_posted s run h
-  posted_by {s} (office_hear p m to) run h = hears_posted s p.note p.from (counted_by n f (s.office.desks.at p.note) p.from p.message) h
+  posted_by {s} (office_hear p m to) run h = hears_posted s p.note p.from (office_case n f (s.office.desks.at p.note) p.from p.message) h
   posted_by {s} (warden_hear i p l own m to) run h =
       posted_more (packets n i p.note o.sends) (λ q at so _. plain_sends n i p.note o.sends (warden_plain (s.warden i) p.from p.note p.message) q at so) (λ x at. Memᴰ.append_right (P.warden_event i p.note (o.next.at p.note) o.outcome) at) h
     where

@@ -1,26 +1,27 @@
 -- A reading that begins while all are at work, and the note is not being written, reads what was written last.
 -- Assumes nothing.
-use Rattle.std.proofs.Common.{◌≡◌, ℕ, suc, ◌+◌, ◌*◌, ◌<◌, ◌≤◌, Bool, true, false, ◌||◌, ltb, List, [], ◌∷◌, ◌++◌, sym, refl, ap, ◌∙◌, subst, ⊎_elim, arith}
+use Rattle.std.proofs.Common.{◌≡◌, ℕ, suc, ◌+◌, ◌*◌, ◌<◌, ◌≤◌, Bool, true, false, List, [], ◌∷◌, ◌++◌, sym, refl, ap, ◌∙◌, subst, ⊎_elim, arith}
 use mathlib.Core.List.Memᴰ
 use mathlib.Core.List.{Memᴰ}
-use Rattle.std.proofs.lemmas.Bool.{both_ways, cases_Bool, cases_lt, cond_both, cond-false, eq-eqb, lt-leb, ltb-false}
+use Rattle.std.proofs.lemmas.Bool.{both_ways, false_from_ne_true, cases_lt, eq-eqb, lt-leb}
 use Rattle.register.specs.Count.{count}
 use Rattle.register.specs.Note.{Note}
-use Rattle.register.specs.Rule.{silence, answers, Reading, Found, Nothing, pick}
-use Rattle.register.proofs.Counting.{within, nobody}
+use Rattle.register.specs.Rule.{silence, answers, Reading, Nothing, pick}
+use Rattle.register.proofs.Counting.{either, nobody}
 use Rattle.register.proofs.Notes.{note_path}
 use Rattle.register.proofs.Put.{put_same}
 use Rattle.register.proofs.Keeps.{reach_kept}
-use Rattle.protocol.specs.Message.{Ask, Each}
-use Rattle.protocol.specs.Step.{Step, Done, quiet, refuse}
-use Rattle.protocol.specs.Reader.{ReaderDone, asked, undecided, unsure, Reader, last_round, more_rounds, used_up, in_round, read_on, decided, over, decide}
+use Rattle.protocol.specs.Step.{Step}
+use Rattle.protocol.specs.Reader.{ReaderDone, asked, Reader, more_rounds, in_round, decided}
 use Rattle.protocol.specs.Log.{Event, Began, Ended, Asked, Read, Log, before_round, lapsed}
 use Rattle.protocol.specs.Promise.{RightRead, Few, Busy}
 use Rattle.protocol.specs.System.{reader_event}
 use Rattle.protocol.proofs.Logs.{begun_most}
 use Rattle.protocol.proofs.Laws.{good_logs}
 use Rattle.protocol.proofs.Packets.{at_each}
+use Rattle.protocol.proofs.PartyCases.{opening, DecideCase, decide_reads, decide_waits, decide_doubts, decide_case}
 use Rattle.protocol.proofs.ReaderSteps.{doubts_right}
+use Rattle.protocol.proofs.Readings.{begins}
 use Rattle.protocol.proofs.Follows as F
 use Rattle.protocol_tables.proofs.Refines as T
 use Rattle.protocol_files.specs.System.{System, by_reader, reads, Run, then}
@@ -45,7 +46,7 @@ module _ (n f : ℕ) (liar : ℕ → Bool) (least : 4 * f < n) where
       let work = h.office.working up in
       let (world, reach, shows) = (F.run_kept n f liar least (T.refines n f liar (plain n f liar o w b s) h.run)).followed k 0 in
       let d = shows.desk in
-      let idle : (o.desks.at k).busy ≡ false = ⊎_elim (λ on. absurd (both_ways (s.office.memory.desks.at k).busy off ((work.like.desk k).busy ∙ (h.office.stands.desk k).busy on))) (λ no_writing. no_writing) (cases_Bool (o.desks.at k).busy) in
+      let idle : (o.desks.at k).busy ≡ false = false_from_ne_true (o.desks.at k).busy (λ on. both_ways (s.office.memory.desks.at k).busy off ((work.like.desk k).busy ∙ (h.office.stands.desk k).busy on)) in
       let all : world.office.ended ≡ world.office.edition = d.idle idle in
       let last : world.office.edition ≡ (o.desks.at k).now.edition = d.edition in
       subst (λ (x : Note). Rests k x s.log) (sym ((work.like.desk k).now ∙ (h.office.stands.desk k).now))
@@ -62,10 +63,11 @@ module _ (n f : ℕ) (liar : ℕ → Bool) (least : 4 * f < n) where
     before = rw (eq-eqb j j refl)
 
     in_log : {y : Event} → Memᴰ y (Asked j k ∷ l) → (y ≡ Asked j k → ⊥) → Memᴰ y l
-    in_log at other = ⊎_elim (λ is. absurd (other is)) (λ at. at) (Memᴰ.cases_cons at)
+    in_log (Memᴰ.head is) other = absurd (other is)
+    in_log (Memᴰ.tail at) other = at
 
     old : (e : ℕ) (v : List ℕ) → Memᴰ (Began k e v) (Asked j k ∷ l) → Memᴰ (Began k e v) l
-    old e v at = in_log at (λ (is : Began k e v ≡ Asked j k). let z : ◌≡◌ {A = ℕ} 0 1 = cc in omega arith)
+    old e v at = in_log at (λ (is : Began k e v ≡ Asked j k). cc)
 
     -- so the round does not read nothing
     not_busy : Busy j k (Asked j k ∷ l) → ⊥
@@ -74,7 +76,7 @@ module _ (n f : ℕ) (liar : ℕ → Bool) (least : 4 * f < n) where
         unfinished (subst (λ (m : Log). Memᴰ (Ended k e) m) (sym before) (rest.ended e some below))
 
     honest_few : count n liar ≤ f
-    honest_few = omega (arith, within n liar (λ i. liar i || lapsed i j k (Asked j k ∷ l)) (λ i _ e. rw e))
+    honest_few = omega (arith, either n liar (λ i. lapsed i j k (Asked j k ∷ l)))
 
     -- and what it reads is what was written last
     reads_last : (t : System) → Run n f liar t → (y : Note) → t.log ≡ Read j k y.edition y.value ∷ (Asked j k ∷ l) → y ≡ x
@@ -110,16 +112,12 @@ module _ (n f : ℕ) (liar : ℕ → Bool) (least : 4 * f < n) where
             (λ (zero_y, empty). note_path y x (zero_y ∙ sym zero_x) (empty ∙ sym (rest.blank zero_x)))
             (right.written honest_few)
 
--- the round begins
-abbrev opening : (k : ℕ) → Reader → Step Reader ReaderDone
-opening k q = record { next = in_round k more_rounds q; sends = Each (Ask q.next); outcome = Done asked }
-
 module _ (n f : ℕ) (liar : ℕ → Bool) (least : 4 * f < n) (s : System) (run : Run n f liar s) (all : AllUp n liar s) (j k : ℕ) (own : liar j ≡ false) (idle : (s.office.memory.desks.at k).busy ≡ false) (few : Few n f liar j k (Asked j k ∷ s.log)) where
   abbrev x : Note
   x = (s.office.memory.desks.at k).now
 
   abbrev begun : System
-  begun = by_reader n j (opening k (s.reader j)) s
+  begun = by_reader n j (opening k more_rounds asked (s.reader j)) s
 
   abbrev r : ℕ
   r = (s.reader j).next
@@ -161,24 +159,17 @@ module _ (n f : ℕ) (liar : ℕ → Bool) (least : 4 * f < n) (s : System) (run
   round_reads : Run n f liar begun → (t : System) × Way n f liar begun t × Answer t
   round_reads run =
       let (t, q, way, ends) = hears_all n f liar least enough_honest begun j k r more_rounds (suc r) own begun (waiting run) in
-      (t, way, comes_to t (way_run n f liar run way) q ends (pick n f q.replies n) refl ends.next ends.log)
+      (t, way, comes_to t (way_run n f liar run way) q ends (decide_case q (pick n f q.replies n)) refl ends.next ends.log)
     where
-      comes_to : (t : System) → Run n f liar t → (q : Reader) → Ends n f liar least enough_honest begun j k r more_rounds (suc r) own q t → (c : Reading) → pick n f q.replies n ≡ c → t.reader j ≡ (decide q c).next → t.log ≡ reader_event j (decide q c).next (decide q c).outcome ++ begun.log → Answer t
-      comes_to t run q ends (Found y) picked next log =
+      comes_to : (t : System) → Run n f liar t → (q : Reader) → Ends n f liar least enough_honest begun j k r more_rounds (suc r) own q t → {c : Reading} {o : Step Reader ReaderDone} → DecideCase q c o → pick n f q.replies n ≡ c → t.reader j ≡ o.next → t.log ≡ reader_event j o.next o.outcome ++ begun.log → Answer t
+      comes_to t run q ends (decide_reads y) picked next log =
           let said : t.log ≡ Read j k y.edition y.value ∷ begun.log = log ∙ ap (λ (k : ℕ). Read j k y.edition y.value ∷ begun.log) ends.reader.note in
           said ∙ ap (λ (y : Note). Read j k y.edition y.value ∷ begun.log) (reads_last n f liar least j k x s.log few rest t run y said)
-      comes_to t run q ends Nothing picked next log =
-          cond_both (ltb 0 q.left) (quiet q undecided) (quiet (over q) unsure) (λ (o : Step Reader ReaderDone). t.reader j ≡ o.next → t.log ≡ reader_event j o.next o.outcome ++ begun.log → Answer t)
-          (λ _ next log. absurd (doubts t run q next ends.reader.busy ends.reader.note ends.told picked log))
-          (λ last _ _. absurd (omega (arith, ltb-false 0 q.left last, ends.reader.left)))
-          next log
-
--- a reader whose numbers are not used up begins the round
-begins : (k : ℕ) (q : Reader) → q.next < last_round → read_on q k ≡ opening k q
-begins k q fresh = cond-false (used_up q) (refuse q 5) (opening k q) (lt-leb last_round q.next fresh)
+      comes_to t run q ends (decide_waits more) picked next log = absurd (doubts t run q next ends.reader.busy ends.reader.note ends.told picked log)
+      comes_to t run q ends (decide_doubts last) picked next log = absurd (omega (arith, ends.reader.left))
 
 pub reading_answers_lem : ReadingAnswers
 reading_answers_lem n f liar least s run all j k own fresh idle few =
-    subst (λ (o : Step Reader ReaderDone). Run n f liar (by_reader n j o s) → Few n f liar j k (by_reader n j o s).log → (t : System) × Way n f liar (by_reader n j o s) t × (t.log ≡ Read j k (s.office.memory.desks.at k).now.edition (s.office.memory.desks.at k).now.value ∷ (by_reader n j o s).log)) (sym (begins k (s.reader j) fresh))
+    subst (λ (o : Step Reader ReaderDone). Run n f liar (by_reader n j o s) → Few n f liar j k (by_reader n j o s).log → (t : System) × Way n f liar (by_reader n j o s) t × (t.log ≡ Read j k (s.office.memory.desks.at k).now.edition (s.office.memory.desks.at k).now.value ∷ (by_reader n j o s).log)) (sym (begins k more_rounds asked (s.reader j) fresh))
     (λ begun few. round_reads n f liar least s run all j k own idle few begun)
     (then run (reads j k own)) few

@@ -11,17 +11,17 @@ use Rattle.protocol_tables.specs.Keep.{empty}
 use Rattle.protocol_tables.specs.Office.{Office, empty_office}
 use Rattle.protocol_tables.specs.System as tables
 use Rattle.protocol_tables.proofs.Refines as T
+use Rattle.protocol_tables.proofs.Within.{Within, within_more}
 use Rattle.protocol_files.specs.Disk.{with_beside, rename}
 use Rattle.protocol_files.specs.Nodes.{Node, with_disk, fallen}
 use Rattle.protocol_files.specs.System.{System, with_office, by_reader, Move, writes, office_tick, office_hear, write_stops, hear_stops, office_falls, office_opens, office_scribbles, office_renames, warden_hear, warden_flushes, warden_falls, warden_opens, warden_scribbles, warden_renames, loses, reads, reader_ticks, reader_hears, reader_restarts, lies, Run, begin, then, Refines, Holds}
-use Rattle.protocol_files.proofs.Takes.{Within}
 use Rattle.protocol_files.proofs.WardenFiles as W
 use Rattle.protocol_files.proofs.WardenMoves as M
 use Rattle.protocol_files.proofs.OfficeFiles.{OfficeShows, office_more}
 use Rattle.protocol_files.proofs.OfficeFiles as O
 use Rattle.protocol_files.proofs.OfficeMoves as D
 use Rattle.protocol_files.proofs.OfficeHears as H
-use Rattle.protocol_files.proofs.Shown.{fits_more, reader_none, within_more, plain, Followed}
+use Rattle.protocol_files.proofs.Shown.{fits_more, reader_none, plain, Followed}
 
 module _ (n f : ℕ) (liar : ℕ → Bool) (least : 4 * f < n) where
   -- the office's node has changed, and nothing else

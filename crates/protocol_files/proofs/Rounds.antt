@@ -3,19 +3,20 @@
 use Rattle.std.proofs.Common.{◌≡◌, ℕ, suc, ◌+◌, ◌-◌, ◌*◌, ◌<◌, ◌≤◌, Bool, true, false, cond, ltb, ◌⊎◌, [], ◌++◌, sym, refl, ap, ◌∙◌, subst, inl, inr, ⊎_elim, arith}
 use mathlib.Core.List.Memᴰ
 use mathlib.Core.List.{Memᴰ}
-use Rattle.std.proofs.lemmas.Bool.{cond_both, cond-true, cond-false, cases_Bool, lt-ltb, leb-true, leb-false, ltb-true, ltb-false}
+use Rattle.std.proofs.lemmas.Bool.{cond_both, cond-true, cond-false, cases_Bool, lt-ltb, leb-true, leb-false}
 use Rattle.register.specs.Count.{count}
 use Rattle.register.specs.Note.{Note}
-use Rattle.register.specs.Rule.{answers, Reading, Found, Nothing, pick}
+use Rattle.register.specs.Rule.{answers, Reading, pick}
 use Rattle.register.specs.Progress.{missing}
 use Rattle.register.proofs.Put.{put_same}
 use Rattle.register.proofs.Moves.{Nearer, descend, who, fall, enough}
 use Rattle.protocol.specs.Message.{Ask, Told, Packet}
 use Rattle.protocol.specs.Step.{Step, quiet, refuse}
-use Rattle.protocol.specs.Reader.{ReaderDone, retried, no_reading, heard, undecided, unsure, Reader, begin_round, decided, ask_again, awaits_told, hear, over, decide, settle_round, told_on}
+use Rattle.protocol.specs.Reader.{ReaderDone, retried, no_reading, heard, Reader, begin_round, decided, ask_again, awaits_told, hear, decide, settle_round, told_on}
 use Rattle.protocol.specs.Log.{Log}
 use Rattle.protocol.specs.System.{reader_event}
 use Rattle.protocol.proofs.Packets.{at_each}
+use Rattle.protocol.proofs.PartyCases.{DecideCase, decide_reads, decide_waits, decide_doubts, decide_case}
 use Rattle.protocol.proofs.Sound.{SoundReader}
 use Rattle.protocol.proofs.Follows as F
 use Rattle.protocol.proofs.Ways.{honest_so}
@@ -157,16 +158,10 @@ reader_sound n f liar least s run j =
     (F.run_kept n f liar least (T.refines n f liar (plain n f liar o w b s) h.run)).readers j
 
 -- what was decided
-decision : (j : ℕ) (q : Reader) (s t : System) (xs : Log) → q.busy ≡ true → q.note ≡ (s.reader j).note → q.left ≡ (s.reader j).left → (c : Reading) → t.reader j ≡ (decide q c).next → t.log ≡ reader_event j (decide q c).next (decide q c).outcome ++ (xs ++ s.log) → Decision j s t xs
-decision j q s t xs busy note left (Found x) next log = sure x (rw (← note) log)
-decision j q s t xs busy note left Nothing next log =
-    cond_both (ltb 0 q.left) (quiet q undecided) (quiet (over q) unsure) (λ (o : Step Reader ReaderDone). t.reader j ≡ o.next → t.log ≡ reader_event j o.next o.outcome ++ (xs ++ s.log) → Decision j s t xs)
-    (λ more next log. open_still (ap (λ (q : Reader). q.busy) next ∙ busy) (rw (← left) (ltb-true 0 q.left more)) log)
-    (λ last next log. doubtful (sym left ∙ none last) (rw (← note) log))
-    next log
-  where
-    none : ltb 0 q.left ≡ false → q.left ≡ 0
-    none last = omega (arith, ltb-false 0 q.left last)
+decision : (j : ℕ) (q : Reader) (s t : System) (xs : Log) → q.busy ≡ true → q.note ≡ (s.reader j).note → q.left ≡ (s.reader j).left → {c : Reading} {o : Step Reader ReaderDone} → DecideCase q c o → t.reader j ≡ o.next → t.log ≡ reader_event j o.next o.outcome ++ (xs ++ s.log) → Decision j s t xs
+decision j q s t xs busy note left (decide_reads x) next log = sure x (rw (← note) log)
+decision j q s t xs busy note left (decide_waits more) next log = open_still (ap (λ (q : Reader). q.busy) next ∙ busy) (rw (← left) more) log
+decision j q s t xs busy note left (decide_doubts last) next log = doubtful (sym left ∙ last) (rw (← note) log)
 
 -- all are at work: it asks again, and hears all but f
 module _ (n f : ℕ) (liar : ℕ → Bool) (least : 4 * f < n) (few : count n liar ≤ f) (s : System) (run : Run n f liar s) (awake : (i : ℕ) → i < n → liar i ≡ false → Awake (s.warden i)) (j : ℕ) (own : liar j ≡ false) (busy : (s.reader j).busy ≡ true) (short : decided n f (s.reader j) ≡ false) where
@@ -228,7 +223,7 @@ round_ends_lem n f liar least few s run j own busy = ⊎_elim already first (cas
             told = rw (ap (λ (q : Reader). q.replies) ends.next ∙ kept.replies) (leb-true n (answers n q.replies + f) ends.told);
             office = ends.office ∙ office;
             more = on.more;
-            decision = decision j q s t on.more ends.reader.busy (ends.reader.note ∙ ap (λ (q : Reader). q.note) is) (ends.reader.left ∙ ap (λ (q : Reader). q.left) is) (pick n f q.replies n) ends.next (ends.log ∙ ap (λ (l : Log). reader_event j (decide q (pick n f q.replies n)).next (decide q (pick n f q.replies n)).outcome ++ l) on.log);
+            decision = decision j q s t on.more ends.reader.busy (ends.reader.note ∙ ap (λ (q : Reader). q.note) is) (ends.reader.left ∙ ap (λ (q : Reader). q.left) is) (decide_case q (pick n f q.replies n)) ends.next (ends.log ∙ ap (λ (l : Log). reader_event j (decide q (pick n f q.replies n)).next (decide q (pick n f q.replies n)).outcome ++ l) on.log);
           },
         )
 

@@ -1,6 +1,6 @@
 -- How a run without files shows in one with files. It may have more on its way, and know of an end that the office's file lacks.
 -- Assumes nothing.
-use Rattle.std.proofs.Common.{◌≡◌, ℕ, ◌*◌, ◌<◌, Bool, false, List, [], ◌∷◌, ◌++◌, refl, ⊎_elim, arith}
+use Rattle.std.proofs.Common.{◌≡◌, ℕ, ◌*◌, ◌<◌, Bool, false, List, [], ◌∷◌, ◌++◌, refl, ⊎_elim}
 use mathlib.Core.List.Memᴰ
 use mathlib.Core.List.{Memᴰ}
 use Rattle.register.specs.Note.{Note}
@@ -12,10 +12,10 @@ use Rattle.protocol.specs.System.{reader_event}
 use Rattle.protocol_tables.specs.Keep.{Keep}
 use Rattle.protocol_tables.specs.Office.{Office}
 use Rattle.protocol_tables.specs.System as tables
+use Rattle.protocol_tables.proofs.Within.{Within}
 use Rattle.frames.specs.Format.{Frame, Sent, Begun, Ended, Fits}
 use Rattle.protocol_files.specs.Records.{took_by, took_all}
 use Rattle.protocol_files.specs.System.{System}
-use Rattle.protocol_files.proofs.Takes.{Within}
 use Rattle.protocol_files.proofs.WardenFiles.{OfficeFits, WardenShows}
 use Rattle.protocol_files.proofs.OfficeFiles.{OfficeShows}
 use Rattle.protocol_files.proofs.Posted.{run_posted}
@@ -32,7 +32,7 @@ pub fits_more : (xs : List Event) {l : Log} → NoneBegin xs → LogFits l → L
 fits_more xs none h k e v at = ⊎_elim (λ at. absurd (none k e v at)) (h k e v) (Memᴰ.append_cases xs at)
 
 took_none : (i : ℕ) (f : Frame) → NoneBegin (took_by i f)
-took_none i (Sent k (Take x)) = λ k e v at. let is = Memᴰ.eq_of_singleton at in let z : ◌≡◌ {A = ℕ} 0 1 = cc in omega arith
+took_none i (Sent k (Take x)) = λ k e v at. cc (Memᴰ.eq_of_singleton at)
 took_none i (Sent k (Took e)) = λ k e v at. Memᴰ.not-nil at
 took_none i (Sent k (Ask r)) = λ k e v at. Memᴰ.not-nil at
 took_none i (Sent k (Told r x)) = λ k e v at. Memᴰ.not-nil at
@@ -44,18 +44,15 @@ took_fits i [] h = h
 took_fits i (f ∷ fs) {l} h = took_fits i fs {l = took_by i f ++ l} (fits_more (took_by i f) {l = l} (took_none i f) h)
 
 pub reader_none : (j : ℕ) (q : Reader) (out : Outcome ReaderDone) → NoneBegin (reader_event j q out)
-reader_none j q (Done asked) = λ k e v at. let is = Memᴰ.eq_of_singleton at in let z : ◌≡◌ {A = ℕ} 0 1 = cc in omega arith
+reader_none j q (Done asked) = λ k e v at. cc (Memᴰ.eq_of_singleton at)
 reader_none j q (Done asked_again) = λ k e v at. Memᴰ.not-nil at
-reader_none j q (Done retried) = λ k e v at. let is = Memᴰ.eq_of_singleton at in let z : ◌≡◌ {A = ℕ} 0 1 = cc in omega arith
+reader_none j q (Done retried) = λ k e v at. cc (Memᴰ.eq_of_singleton at)
 reader_none j q (Done no_reading) = λ k e v at. Memᴰ.not-nil at
 reader_none j q (Done heard) = λ k e v at. Memᴰ.not-nil at
 reader_none j q (Done undecided) = λ k e v at. Memᴰ.not-nil at
-reader_none j q (Done (read x)) = λ k e v at. let is = Memᴰ.eq_of_singleton at in let z : ◌≡◌ {A = ℕ} 0 1 = cc in omega arith
-reader_none j q (Done unsure) = λ k e v at. let is = Memᴰ.eq_of_singleton at in let z : ◌≡◌ {A = ℕ} 0 1 = cc in omega arith
+reader_none j q (Done (read x)) = λ k e v at. cc (Memᴰ.eq_of_singleton at)
+reader_none j q (Done unsure) = λ k e v at. cc (Memᴰ.eq_of_singleton at)
 reader_none j q (Refused m) = λ k e v at. Memᴰ.not-nil at
-
-pub within_more : {A : Type 0} (ps : List A) {a b : List A} → Within a b → Within (ps ++ a) (ps ++ b)
-within_more ps {a} {b} h p m = ⊎_elim (λ at. Memᴰ.append_left b at) (λ at. Memᴰ.append_right ps (h p at)) (Memᴰ.append_cases ps m)
 
 module _ (n f : ℕ) (liar : ℕ → Bool) where
   -- without files: the office has o, the wardens have w, and b is on its way

@@ -1,29 +1,23 @@
 -- Records that a warden takes, one after the other, each sent by the office.
 -- Assumes nothing.
-use Rattle.std.proofs.Common.{◌≡◌, ℕ, zero, suc, ◌<◌, true, false, eqb, ltb, ◌⊎◌, List, [], ◌∷◌, ◌++◌, take, refl, ap, ◌∙◌, inl, inr, ⊎_elim, arith}
+use Rattle.std.proofs.Common.{◌≡◌, ℕ, zero, suc, ◌<◌, true, false, ◌⊎◌, List, [], ◌∷◌, ◌++◌, take, refl, ap, ◌∙◌, inl, inr, ⊎_elim, arith}
 use mathlib.Core.List.{Memᴰ}
-use Rattle.std.proofs.lemmas.Bool.{cond_both, eqb-true, ltb-true, lt-ltb, cases_eq, ne_eqb}
 use Rattle.register.specs.Note.{Note}
-use Rattle.register.proofs.Put.{put_same}
+use Rattle.register.proofs.Put.{put_at}
 use Rattle.protocol.specs.Message.{office, Message, Take, Took, Ask, Told, Packet, Sends, One, Each}
 use Rattle.protocol.specs.Message as words
-use Rattle.protocol.specs.Step.{Outcome, Done, Refused, Step, refuse}
-use Rattle.protocol.specs.Warden.{WardenDone, taken, answered, take_on}
+use Rattle.protocol.specs.Step.{Outcome, Done, Refused, Step}
+use Rattle.protocol.specs.Warden.{WardenDone, answered}
 use Rattle.protocol_tables.specs.Keep.{Keep, room, store}
-use Rattle.protocol_tables.specs.Warden.{takes, keep_note, warden_keeps}
+use Rattle.protocol_tables.specs.Warden.{takes, warden_keeps}
+use Rattle.protocol_tables.proofs.Within.{Within}
+use Rattle.protocol_tables.proofs.TableCases.{took_step, KeepCase, keep_takes, keep_full, keep_had, keep_answers, keep_passes, keep_case}
 use Rattle.frames.specs.Format.{Frame, Sent, Fits}
 use Rattle.frames.specs.Journal.{Records}
 use Rattle.frames.specs.declared.role.Role.TheVariants as roles
 use Rattle.protocol_files.specs.Records.{warden_replays, warden_replays_all}
 
--- all of these are among those
-abbrev pub Within : {A : Type 0} → List A → List A → Type 0
-Within {A} xs ys = (x : A) → Memᴰ x xs → Memᴰ x ys
-
 -- WHAT A WARDEN DOES WITH A MESSAGE: it takes a note, or it has what it had
-abbrev pub took_step : (k : ℕ) → Note → Keep Note → Step (Keep Note) WardenDone
-took_step k x d = record { next = store k x d; sends = One office (Took x.edition); outcome = Done taken }
-
 -- of what it has of k, it tells nothing else
 abbrev pub Tells : Keep Note → (k : ℕ) → Sends → Type 0
 Tells d k words.Nothing = Unit {0}
@@ -31,31 +25,21 @@ Tells d k (One to m) = (r : ℕ) (x : Note) → m ≡ Told r x → x ≡ d.at k
 Tells d k (Each m) = ⊥
 
 took_tells : (d : Keep Note) (k e r : ℕ) (x : Note) → Took e ≡ Told r x → x ≡ d.at k
-took_tells d k e r x is = let z : ◌≡◌ {A = ℕ} 0 1 = cc in absurd (omega arith)
+took_tells d k e r x is = cc
 
 pub data Heard (d : Keep Note) (from k : ℕ) : Message → Step (Keep Note) WardenDone → Type 0 where
   took : (x : Note) → from ≡ office → (d.at k).edition < x.edition → room k d ≡ true → Heard d from k (Take x) (took_step k x d)
   other : {m : Message} (sends : Sends) (out : Outcome WardenDone) → takes out ≡ false → Tells d k sends → Heard d from k m (record { next = d; sends = sends; outcome = out })
 
 pub heard : (d : Keep Note) (from k : ℕ) (m : Message) → Heard d from k m (warden_keeps d from k m)
-heard d from k (Take x) =
-    cond_both (eqb from office) (take_on y x) (refuse y 1) After
-    (λ sent. cond_both (ltb y.edition x.edition) (record { next = x; sends = One office (Took x.edition); outcome = Done taken }) (record { next = y; sends = One office (Took x.edition); outcome = Refused 2 }) After
-    (λ late. cond_both (room k d) (took_step k x d) (refuse d 6) (Heard d from k (Take x)) (λ roomy. took x (eqb-true from office sent) (ltb-true y.edition x.edition late) roomy) (λ _. other words.Nothing (Refused 6) refl tt))
-    (λ _. other (One office (Took x.edition)) (Refused 2) refl (took_tells d k x.edition)))
-    (λ _. other words.Nothing (Refused 1) refl tt)
+heard d from k m = go (keep_case d from k m)
   where
-    y : Note
-    y = d.at k
-
-    After : Step Note WardenDone → Type 0
-    After o = Heard d from k (Take x) (keep_note d k o)
-heard d from k (Took e) = other words.Nothing (Refused 1) refl tt
-heard d from k (Ask r) = other (One from (Told r (d.at k))) (Done answered) refl (λ r' x is. cc)
-heard d from k (Told r x) = other words.Nothing (Refused 1) refl tt
-
-takes_step : (d : Keep Note) (k : ℕ) (x : Note) → (d.at k).edition < x.edition → room k d ≡ true → warden_keeps d office k (Take x) ≡ took_step k x d
-takes_step d k x late roomy = rw (lt-ltb (d.at k).edition x.edition late, roomy)
+    go : {m : Message} {o : Step (Keep Note) WardenDone} → KeepCase d from k m o → Heard d from k m o
+    go (keep_takes x own late roomy) = took x own late roomy
+    go (keep_full x own full) = other words.Nothing (Refused 6) refl tt
+    go (keep_had x) = other (One office (Took x.edition)) (Refused 2) refl (took_tells d k x.edition)
+    go (keep_answers r) = other (One from (Told r (d.at k))) (Done answered) refl (λ r' x is. cc)
+    go keep_passes = other words.Nothing (Refused 1) refl tt
 
 -- f is what the office sent to i, and i takes it
 pub record Taking (i : ℕ) (bag : List Packet) (d : Keep Note) (f : Frame) : Type 0 where
@@ -112,7 +96,7 @@ module _ (i : ℕ) (bag : List Packet) where
       Later y = (y ≡ d.at k) ⊎ (((d.at k).edition < y.edition) × Memᴰ (record { from = office; to = i; note = k; message = Take y }) bag)
 
       first : Later ((store t.about t.text d).at k)
-      first = ⊎_elim (λ (is : k ≡ t.about). rw (is, put_same t.about t.text d.at) (inr (t.late, t.sent))) (λ apart. rw (ne_eqb k t.about apart) (inl refl)) (cases_eq k t.about)
+      first = put_at Later k t.about t.text d.at (λ is. rw is (inr (t.late, t.sent))) (λ _. inl refl)
 
       one_step : Later ((warden_replays d f).at k)
       one_step = rw (replays_taking t) first

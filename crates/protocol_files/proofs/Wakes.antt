@@ -2,16 +2,15 @@
 -- Assumes nothing.
 use Rattle.std.proofs.Common.{◌≡◌, ℕ, zero, suc, ◌*◌, ◌<◌, ◌≤◌, Bool, true, false, ◌++◌, sym, refl, ap, ◌∙◌, subst, ⊎_elim, arith}
 use mathlib.Core.List.Memᴰ
-use Rattle.std.proofs.lemmas.Bool.{both_ways, cases_Bool, cases_eq, ne_eqb}
+use Rattle.std.proofs.lemmas.Bool.{both_ways, cases_Bool, cases_eq}
 use Rattle.register.specs.Count.{put}
-use Rattle.register.proofs.Put.{put_same}
+use Rattle.register.proofs.Put.{put_at}
 use Rattle.protocol_files.specs.Records.{warden_of}
 use Rattle.protocol_files.specs.Nodes.{Node, Warden, flushed, opened_warden}
 use Rattle.protocol_files.specs.System.{System, warden_flushed, warden_opened, office_opened, office_opens, warden_flushes, warden_opens, Run}
 use Rattle.protocol_files.specs.Progress.{Way, here, Onward, Awake, Up, ComesUp}
 use Rattle.protocol_files.proofs.Journals.{finds_some}
-use Rattle.protocol_files.proofs.Disks.{first}
-use Rattle.protocol_files.proofs.WardenFiles.{WardenFile}
+use Rattle.protocol_files.proofs.WardenFiles.{file_in_use}
 use Rattle.protocol_files.proofs.OfficeFiles.{now_file}
 use Rattle.protocol_files.proofs.Refines.{followed}
 use Rattle.protocol_files.proofs.Sound.{up_warden}
@@ -50,7 +49,7 @@ module _ (n f : ℕ) (liar : ℕ → Bool) (least : 4 * f < n) where
       down : (s.warden i).up ≡ false → (t : System) × Wakes i s t
       down off =
           let (o, w, b, h) = followed n f liar least run in
-          let file = first (WardenFile i s.bag (w i)) (s.warden i).disk.file (s.warden i).disk.former (h.warden i below own).files in
+          let file = file_in_use n i s.bag (w i) (s.warden i) (h.warden i below own) in
           let ss = file.old in
           let (ps, rest, found) = finds_some file.has in
           let (more, is) = took_front i ps s.log in (
@@ -95,8 +94,7 @@ module _ (n f : ℕ) (liar : ℕ → Bool) (least : 4 * f < n) where
               way = along n f liar h.way w.way;
               onward = further h.onward w.onward;
               office = w.office ∙ h.office;
-              awake = λ i below own. subst (λ (c : ℕ → Node Warden). Awake (c i)) (sym w.warden)
-                  (⊎_elim (λ (is : i ≡ m). rw (is, put_same m w.node t.warden) w.awake) (λ apart. rw (ne_eqb i m apart) (h.awake i (omega arith) own)) (cases_eq i m));
+              awake = λ i below own. subst (λ (c : ℕ → Node Warden). Awake (c i)) (sym w.warden) (put_at Awake i m w.node t.warden (λ _. w.awake) (λ apart. h.awake i (omega arith) own));
             },
           )
 
@@ -126,6 +124,6 @@ comes_up n f liar least s run = ⊎_elim up down (cases_Bool s.office.up)
             way = along n f liar way h.way;
             onward = further (record { reader = refl; bag = λ p at. at; more = more; log = is }) h.onward;
             all = record { office = ap (λ c. c.up) h.office; warden = h.awake };
-            office = λ on. absurd (both_ways s.office.up off on);
+            office = λ on. cc;
           },
         )

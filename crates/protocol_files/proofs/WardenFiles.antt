@@ -3,7 +3,6 @@
 use Rattle.std.proofs.Common.{◌≡◌, ℕ, true, List, [], ◌∷◌, ◌++◌, length, sym, refl, ap, ◌∙◌, subst}
 use mathlib.Core.List.{Memᴰ}
 use lib.Seq.{take-length}
-use borrow.Author.Tests.{clash}
 use Rattle.std.proofs.lemmas.Bool.{cond-false}
 use Rattle.register.specs.Note.{Note, none}
 use Rattle.register.proofs.Put.{put_same}
@@ -12,6 +11,8 @@ use Rattle.protocol.specs.Step.{Step}
 use Rattle.protocol.specs.Warden.{WardenDone}
 use Rattle.protocol_tables.specs.Keep.{Keep, empty}
 use Rattle.protocol_tables.specs.Warden.{takes, warden_keeps}
+use Rattle.protocol_tables.proofs.Within.{Within}
+use Rattle.protocol_tables.proofs.TableCases.{took_step}
 use Rattle.frames.specs.Format.{Frame, Sent, Fits}
 use Rattle.frames.specs.Journal.{Records, encode_all}
 use Rattle.frames.specs.declared.role.Role.TheVariants as roles
@@ -22,7 +23,7 @@ use Rattle.protocol_files.specs.Nodes.{Node, Warden, new_warden, with_disk, fall
 use Rattle.protocol_files.specs.System.{Found, Anew}
 use Rattle.protocol_files.proofs.Journals.{Has, sure_only, keeps, known, finds}
 use Rattle.protocol_files.proofs.Disks.{Each, one, first, each_cut, each_more, each_same}
-use Rattle.protocol_files.proofs.Takes.{Within, took_step, Heard, took, other, heard, Taken, replays-++, taken-++, taken_take, taken_more, taken_records}
+use Rattle.protocol_files.proofs.Takes.{Heard, took, other, heard, Taken, replays-++, taken-++, taken_take, taken_more, taken_records}
 
 -- what came to a warden since it had d: what it has now, what it wrote, and what it answers
 pub data Batch (n i : ℕ) (bag : List Packet) (d : Keep Note) : Keep Note → List Frame → List Packet → Type 0 where
@@ -95,12 +96,16 @@ module _ (n i : ℕ) (bag : List Packet) (d : Keep Note) (c : Node Warden) (h : 
         working = λ up. let w = h.working up in record { former = w.former; written = w.written; batch = batch_more within w.batch; pending = w.pending };
       }
 
+  -- the file in use
+  pub file_in_use : WardenFile i bag d c.disk.file
+  file_in_use = first (WardenFile i bag d) c.disk.file c.disk.former h.files
+
   -- whatever it falls to, it has no more and no less
   pub warden_cut : {e : Disk} → Cut c.disk e → Files e
   warden_cut {e} fall = each_cut (WardenFile i bag d) (λ k g f. record { old = f.old; new = f.new; has = keeps k f.has; means = f.means; taken = f.taken }) fall h.files
 
   pub warden_falls : {e : Disk} → Cut c.disk e → (m : Warden) → WardenShows n i bag d (fallen e m)
-  warden_falls fall m = record { files = warden_cut fall; working = λ up. absurd (clash up) }
+  warden_falls fall m = record { files = warden_cut fall; working = λ up. cc }
 
   pub warden_scribbles : (g : File) → WardenShows n i bag d (with_disk (with_beside g c.disk) c)
   warden_scribbles g = record { files = h.files; working = λ up. let w = h.working up in record { former = w.former; written = w.written; batch = w.batch; pending = w.pending } }
@@ -110,13 +115,10 @@ module _ (n i : ℕ) (bag : List Packet) (d : Keep Note) (c : Node Warden) (h : 
       record {
         files = each_more (WardenFile i bag d) c.disk.beside c.disk.file c.disk.former
             (sure_file i bag anew.new (ap (λ (g : File). g.synced) anew.beside) anew.records (ap (λ (g : File). g.pending) anew.beside)
-            (anew.same ∙ ap warden_of (known roles.Warden anew.old f.old anew.read f.has.records (sym anew.sure ∙ f.has.sure)) ∙ f.means))
+            (anew.same ∙ ap warden_of (known roles.Warden anew.old file_in_use.old anew.read file_in_use.has.records (sym anew.sure ∙ file_in_use.has.sure)) ∙ file_in_use.means))
             h.files;
-        working = λ up. absurd (clash up);
+        working = λ up. cc;
       }
-    where
-      f : WardenFile i bag d c.disk.file
-      f = first (WardenFile i bag d) c.disk.file c.disk.former h.files
 
   -- what it finds on its file it has, and would take
   pub warden_finds : {g : File} {ss ps : List Frame} {rest : List ℕ} → WardenFile i bag d g → Found roles.Warden g ss ps rest → Taken i bag d ps × (warden_of ss ≡ d)
@@ -127,7 +129,7 @@ module _ (n i : ℕ) (bag : List Packet) (d : Keep Note) (c : Node Warden) (h : 
   pub warden_opens : {ss ps : List Frame} {rest : List ℕ} → Found roles.Warden c.disk.file ss ps rest →
       Taken i bag d ps × ((more : List Packet) → WardenShows n i more (warden_replays_all d ps) (opened_warden (ss ++ ps) (warden_of (ss ++ ps))))
   warden_opens {ss} {ps} found =
-      let (taken, is) = warden_finds (first (WardenFile i bag d) c.disk.file c.disk.former h.files) found in
+      let (taken, is) = warden_finds file_in_use found in
       let all : warden_of (ss ++ ps) ≡ warden_replays_all d ps = replays-++ (empty none) ss ps ∙ ap (λ (k : Keep Note). warden_replays_all k ps) is in (
         taken,
         λ more. record {
@@ -139,9 +141,6 @@ module _ (n i : ℕ) (bag : List Packet) (d : Keep Note) (c : Node Warden) (h : 
   module _ (fits : OfficeFits bag) (up : c.up ≡ true) where
     abbrev at_work : WardenUp n i bag d c
     at_work = h.working up
-
-    now_file : WardenFile i bag d c.disk.file
-    now_file = first (WardenFile i bag d) c.disk.file c.disk.former h.files
 
     -- a packet comes to it
     pub warden_hears : (p : Packet) → Memᴰ p bag → p.to ≡ i → WardenShows n i bag d (stepped n i p.note (warden_keeps c.memory.notes p.from p.note p.message) c)
@@ -165,10 +164,10 @@ module _ (n i : ℕ) (bag : List Packet) (d : Keep Note) (c : Node Warden) (h : 
         file : WardenFile i bag d next
         file =
             record {
-              old = now_file.old;
+              old = file_in_use.old;
               new = at_work.written ++ records;
-              has = record { sure = now_file.has.sure; records = now_file.has.records; more = taken_records i bag d (at_work.written ++ records) taken; bytes = length (encode_all (at_work.written ++ records)); torn = pending ∙ sym (take-length (encode_all (at_work.written ++ records))) };
-              means = now_file.means;
+              has = record { sure = file_in_use.has.sure; records = file_in_use.has.records; more = taken_records i bag d (at_work.written ++ records) taken; bytes = length (encode_all (at_work.written ++ records)); torn = pending ∙ sym (take-length (encode_all (at_work.written ++ records))) };
+              means = file_in_use.means;
               taken = taken;
             }
 
@@ -181,12 +180,12 @@ module _ (n i : ℕ) (bag : List Packet) (d : Keep Note) (c : Node Warden) (h : 
     warden_flushes more =
         let (taken, is) = batch_taken i bag fits at_work.batch in
         record {
-          files = subst (Each (WardenFile i more c.memory.notes) (flushed c).disk.file) (sym at_work.former) (one (WardenFile i more c.memory.notes) (sure_file i more (now_file.old ++ at_work.written) sure (records-++ roles.Warden now_file.old at_work.written now_file.has.records (taken_records i bag d at_work.written taken)) refl (replays-++ (empty none) now_file.old at_work.written ∙ ap (λ (k : Keep Note). warden_replays_all k at_work.written) now_file.means ∙ is)));
+          files = subst (Each (WardenFile i more c.memory.notes) (flushed c).disk.file) (sym at_work.former) (one (WardenFile i more c.memory.notes) (sure_file i more (file_in_use.old ++ at_work.written) sure (records-++ roles.Warden file_in_use.old at_work.written file_in_use.has.records (taken_records i bag d at_work.written taken)) refl (replays-++ (empty none) file_in_use.old at_work.written ∙ ap (λ (k : Keep Note). warden_replays_all k at_work.written) file_in_use.means ∙ is)));
           working = λ _. record { former = at_work.former; written = []; batch = nothing; pending = refl };
         }
       where
-        sure : c.disk.file.synced ++ c.disk.file.pending ≡ encode_all (now_file.old ++ at_work.written)
-        sure = ap (λ (bs : List ℕ). bs ++ c.disk.file.pending) now_file.has.sure ∙ ap (λ (bs : List ℕ). encode_all now_file.old ++ bs) at_work.pending ∙ sym (encode_all-++ now_file.old at_work.written)
+        sure : c.disk.file.synced ++ c.disk.file.pending ≡ encode_all (file_in_use.old ++ at_work.written)
+        sure = ap (λ (bs : List ℕ). bs ++ c.disk.file.pending) file_in_use.has.sure ∙ ap (λ (bs : List ℕ). encode_all file_in_use.old ++ bs) at_work.pending ∙ sym (encode_all-++ file_in_use.old at_work.written)
 
 pub new_shows : (n i : ℕ) (bag : List Packet) → WardenShows n i bag (empty none) new_warden
-new_shows n i bag = record { files = one (WardenFile i bag (empty none)) (sure_file i bag [] refl tt refl refl); working = λ up. absurd (clash up) }
+new_shows n i bag = record { files = one (WardenFile i bag (empty none)) (sure_file i bag [] refl tt refl refl); working = λ up. cc }

@@ -3,10 +3,9 @@
 use Rattle.std.proofs.Common.{◌≡◌, ℕ, ◌*◌, ◌<◌, Bool, true, false, List, [], ◌∷◌, ◌++◌, sym, refl, ap, ◌∙◌, subst, append_assoc, append-nil}
 use mathlib.Core.List.{Memᴰ}
 use Rattle.register.specs.Count.{put}
-use Rattle.register.proofs.Put.{put_same, put_twice}
+use Rattle.register.proofs.Put.{put_same, put_twice, put_own}
 use Rattle.protocol.specs.Message.{Message, Packet}
 use Rattle.protocol.specs.Log.{Log}
-use Rattle.protocol.proofs.Ways.{put_own}
 use Rattle.protocol_tables.specs.Warden.{warden_keeps}
 use Rattle.frames.specs.Format.{Frame}
 use Rattle.frames.specs.Journal.{Records, encode_all, Splits}
@@ -54,9 +53,6 @@ module _ (n f : ℕ) (liar : ℕ → Bool) (s : System) (i : ℕ) (least : 4 * f
 
   pub warden_stays_on : WardenGoesOn n f liar i s (s.warden i) []
   warden_stays_on = goes_on (s.warden i) starts
-
-  pub warden_scribbles_on : (g : File) → WardenGoesOn n f liar i s (with_disk (with_beside g (s.warden i).disk) (s.warden i)) []
-  warden_scribbles_on g = goes_on (with_disk (with_beside g (s.warden i).disk) (s.warden i)) (scribbles (s.warden i) g starts)
 
   pub warden_falls_on : (e : Disk) (m : Warden) → Cut (s.warden i).disk e → WardenGoesOn n f liar i s (fallen e m) []
   warden_falls_on e m fall = goes_on (fallen e m) (falls (s.warden i) e m fall starts)

@@ -1,25 +1,25 @@
 -- What a warden with files does, a run without files goes on with.
 -- Assumes nothing.
-use Rattle.std.proofs.Common.{◌≡◌, ℕ, ◌*◌, ◌<◌, Bool, true, false, List, [], ◌∷◌, ◌++◌, sym, subst, ⊎_elim, arith}
+use Rattle.std.proofs.Common.{◌≡◌, ℕ, ◌*◌, ◌<◌, Bool, true, false, List, [], ◌∷◌, ◌++◌, sym, subst, ⊎_elim}
 use mathlib.Core.List.Memᴰ
 use mathlib.Core.List.{Memᴰ}
 use Rattle.register.specs.Count.{put}
 use Rattle.register.specs.Note.{Note, none}
-use Rattle.register.proofs.Put.{put_all, put_both}
+use Rattle.register.proofs.Put.{put_all, put_both, put_own}
 use Rattle.protocol.specs.Message.{office, Take, Packet}
 use Rattle.protocol.specs.Log.{Lost, Log}
-use Rattle.protocol.proofs.Ways.{put_own}
 use Rattle.protocol_tables.specs.Keep.{Keep, empty}
 use Rattle.protocol_tables.specs.Warden.{warden_keeps}
 use Rattle.protocol_tables.specs.Office.{Office}
 use Rattle.protocol_tables.specs.System as tables
+use Rattle.protocol_tables.proofs.Within.{Within}
 use Rattle.frames.specs.Format.{Frame}
 use Rattle.frames.specs.Journal.{Records, encode_all}
 use Rattle.frames.specs.declared.role.Role.TheVariants as roles
 use Rattle.protocol_files.specs.Records.{warden_replays_all, warden_of, took_all}
 use Rattle.protocol_files.specs.Nodes.{Node, Warden, new_warden, stepped, flushed, opened_warden}
 use Rattle.protocol_files.specs.System.{System, with_warden, warden_flushed, warden_opened, warden_lost, Found}
-use Rattle.protocol_files.proofs.Takes.{Within, taken_more}
+use Rattle.protocol_files.proofs.Takes.{taken_more}
 use Rattle.protocol_files.proofs.WardenFiles.{OfficeFits, WardenShows}
 use Rattle.protocol_files.proofs.WardenFiles as W
 use Rattle.protocol_files.proofs.WardenRuns.{took_grows, takes_all, hears_all}
@@ -68,7 +68,7 @@ module _ (n f : ℕ) (liar : ℕ → Bool) (s : System) where
   pub loses : (i : ℕ) → Followed n f liar s → Followed n f liar (warden_lost i s)
   loses i (o, w, b, h) =
       warden_changes i new_warden (empty none) s.bag b (Lost i ∷ s.log) h (tables.then h.run (tables.loses i)) h.bag (λ p at. at) (λ p at. at)
-      (fits_more (Lost i ∷ []) {l = s.log} (λ k e v at. let is = Memᴰ.eq_of_singleton at in let z : ◌≡◌ {A = ℕ} 0 1 = cc in omega arith) h.fits)
+      (fits_more (Lost i ∷ []) {l = s.log} (λ k e v at. cc (Memᴰ.eq_of_singleton at)) h.fits)
       (λ x at. Memᴰ.tail at) (W.new_shows n i s.bag)
 
   module _ (least : 4 * f < n) (i : ℕ) (below : i < n) (own : liar i ≡ false) where

@@ -3,7 +3,6 @@
 use Rattle.std.proofs.Common.{◌≡◌, ℕ, ◌<◌, Bool, false, List, [], ◌∷◌, ◌++◌, sym, refl, ap, ◌∙◌, subst, ⊎_elim}
 use mathlib.Core.List.Memᴰ
 use mathlib.Core.List.{Memᴰ}
-use borrow.Author.Tests.{clash}
 use Rattle.std.proofs.lemmas.Bool.{cond-false}
 use Rattle.register.specs.Count.{put}
 use Rattle.register.specs.Note.{Note}
@@ -18,9 +17,10 @@ use Rattle.protocol_tables.specs.Keep.{Keep}
 use Rattle.protocol_tables.specs.Warden.{takes, warden_keeps}
 use Rattle.protocol_tables.specs.Office.{Office}
 use Rattle.protocol_tables.specs.System.{Run, then, warden_hear}
+use Rattle.protocol_tables.proofs.Within.{Within}
 use Rattle.frames.specs.Format.{Frame, Sent}
 use Rattle.protocol_files.specs.Records.{warden_records, warden_replays, warden_replays_all, took_by, took_all}
-use Rattle.protocol_files.proofs.Takes.{Within, Heard, took, other, heard, Taken, taken_more}
+use Rattle.protocol_files.proofs.Takes.{Heard, took, other, heard, Taken, taken_more}
 use Rattle.protocol_files.proofs.WardenFiles.{Batch, nothing, hear}
 
 took_all-++ : (i : ℕ) (fs gs : List Frame) (l : Log) → took_all i (fs ++ gs) l ≡ took_all i gs (took_all i fs l)
@@ -33,7 +33,7 @@ took_grows i (f ∷ fs) l x at = took_grows i fs (took_by i f ++ l) x (Memᴰ.ap
 
 -- what is seen of a step is what is seen of the records that it leaves
 pub seen_by : (i k : ℕ) (out : Outcome WardenDone) (x : Note) → takes out ≡ false → warden_event i k x out ≡ []
-seen_by i k (Done taken) x no_take = absurd (clash (sym no_take))
+seen_by i k (Done taken) x no_take = cc
 seen_by i k (Done answered) x no_take = refl
 seen_by i k (Refused m) x no_take = refl
 

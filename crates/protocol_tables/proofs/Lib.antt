@@ -1,3 +1,5 @@
+pub mod Within
+pub mod TableCases
 pub mod Orders
 pub mod Refines
 pub mod Numbers

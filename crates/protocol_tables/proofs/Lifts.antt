@@ -1,23 +1,22 @@
 -- What the honest can do without bounds they can do with tables; so a writing and a reading come to an end.
 -- Assumes nothing.
-use Rattle.std.proofs.Common.{◌≡◌, ℕ, ◌+◌, ◌≤◌, Bool, true, eqb, ltb, List, [], ◌∷◌, ◌++◌, map, sym, refl, ap, ◌∙◌, subst, ⊎_elim}
+use Rattle.std.proofs.Common.{◌≡◌, ℕ, ◌+◌, ◌≤◌, Bool, true, List, [], ◌∷◌, ◌++◌, map, sym, refl, ap, ◌∙◌, subst, ⊎_elim}
 use mathlib.Core.List.Memᴰ
 use mathlib.Core.List.{Memᴰ}
-use borrow.Author.Tests.{clash}
-use Rattle.std.proofs.lemmas.Bool.{cond_both, eqb-true}
-use Rattle.register.specs.Count.{count, put}
+use Rattle.std.proofs.lemmas.Bool.{cond_both}
+use Rattle.register.specs.Count.{put}
 use Rattle.register.specs.Note.{Note}
-use Rattle.register.specs.Rule.{quorum, answers}
-use Rattle.register.proofs.Put.{put_same}
-use Rattle.protocol.specs.Message.{office, Message, Take, Took, Ask, Told, Packet, One, Each, packets}
-use Rattle.protocol.specs.Step.{Step, Done, Refused, quiet, refuse}
-use Rattle.protocol.specs.Warden.{WardenDone, taken, take_on, warden_on}
-use Rattle.protocol.specs.Office.{OfficeDone, no_writing, counted, ended, Desk, resend, office_tick, acknowledge, close, settle, awaits_took, took_on, office_on}
+use Rattle.register.specs.Rule.{answers}
+use Rattle.register.proofs.Put.{put_same, put_own, put_cell, put_map}
+use Rattle.protocol.specs.Message.{office, Message, Take, Took, Told, Packet, One, Each, packets}
+use Rattle.protocol.specs.Step.{Step, Done, quiet, refuse}
+use Rattle.protocol.specs.Warden.{WardenDone, taken, warden_on}
+use Rattle.protocol.specs.Office.{OfficeDone, no_writing, ended, Desk, resend, office_tick, acknowledge, close, office_on}
 use Rattle.protocol.specs.Reader.{ReaderDone, Reader, read_on, reader_tick, reader_on}
 use Rattle.protocol.specs.System as plain
 use Rattle.protocol.specs.Progress.{Decision, sure, doubtful, open_still, Decided}
 use Rattle.protocol.specs.Progress as ways
-use Rattle.protocol.proofs.Ways.{put_own, own_store}
+use Rattle.protocol.proofs.PartyCases.{takes_note, WardenCase, warden_takes, warden_had, warden_answers, warden_passes, warden_case, OfficeCase, took_counts, took_ends, office_passes, office_case}
 use Rattle.protocol.proofs.Writings as P
 use Rattle.protocol.proofs.Rounds as Q
 use Rattle.protocol.proofs.Readings as R
@@ -27,7 +26,9 @@ use Rattle.protocol_tables.specs.Office.{Letter, post, keep_counting, office_hea
 use Rattle.protocol_tables.specs.System.{System, by_office, by_warden, by_reader, unbounded, Move, Run, then}
 use Rattle.protocol_tables.specs.System as T
 use Rattle.protocol_tables.specs.Progress.{fair, Way, here, next, WritingEnds, RoundEnds, ReadingEnds, ReadingAnswers}
-use Rattle.protocol_tables.proofs.Refines.{at_put, run_kept, refines}
+use Rattle.protocol_tables.proofs.Within.{Within, within_more}
+use Rattle.protocol_tables.proofs.TableCases.{took_step}
+use Rattle.protocol_tables.proofs.Refines.{run_kept, refines}
 use Rattle.protocol_tables.proofs.Room.{brings, roomy, run_fits}
 
 -- u is s without bounds, but that less may be on its way
@@ -42,12 +43,6 @@ pub record Covers (u : plain.System) (s : System) : Type 0 where
 abbrev over : List Packet → System → plain.System
 over bag s = record { office = s.office.desks.at; warden = λ i. (s.warden i).at; reader = s.reader; bag = bag; log = s.log }
 
-abbrev Within : List Packet → List Packet → Type 0
-Within a b = (p : Packet) → Memᴰ p a → Memᴰ p b
-
-within_more : (ps : List Packet) {a b : List Packet} → Within a b → Within (ps ++ a) (ps ++ b)
-within_more ps {a} {b} h p m = ⊎_elim (Memᴰ.append_left b) (λ m. Memᴰ.append_right ps (h p m)) (Memᴰ.append_cases ps m)
-
 -- what was on its way stays so, and each letter is on its way
 pub in_post : (n : ℕ) (ls : List Letter) (bag : List Packet) → Within bag (post n ls bag)
 in_post n [] bag p m = m
@@ -55,11 +50,8 @@ in_post n (l ∷ ls) bag p m = in_post n ls (packets n office l.note l.sends ++ 
 
 pub posted : (n : ℕ) (d : Keep Desk) (ks : List ℕ) (bag : List Packet) (k : ℕ) → Memᴰ k ks → Within (packets n office k (Each (Take (d.at k).now))) (post n (map (again d) ks) bag)
 posted n d [] bag k m p at = absurd (Memᴰ.not-nil m)
-posted n d (x ∷ ks) bag k m p at =
-    ⊎_elim
-    (λ (is : k ≡ x). in_post n (map (again d) ks) (packets n office x (Each (Take (d.at x).now)) ++ bag) p (Memᴰ.append_left bag (rw is at at)))
-    (λ m. posted n d ks (packets n office x (Each (Take (d.at x).now)) ++ bag) k m p at)
-    (Memᴰ.cases_cons m)
+posted n d (x ∷ ks) bag k (Memᴰ.head is) p at = in_post n (map (again d) ks) (packets n office x (Each (Take (d.at x).now)) ++ bag) p (Memᴰ.append_left bag (rw is at at))
+posted n d (x ∷ ks) bag k (Memᴰ.tail m) p at = posted n d ks (packets n office x (Each (Take (d.at x).now)) ++ bag) k m p at
 
 module _ (n f : ℕ) (liar : ℕ → Bool) where
   abbrev FairPlain : plain.System → plain.System → Type 0
@@ -85,65 +77,48 @@ module _ (n f : ℕ) (liar : ℕ → Bool) where
 
     -- the office has counted, or has not
     office_covers : (from k : ℕ) (m : Message) → Covers (plain.by_office n k (office_on n f (s.office.desks.at k) from m) (over bag s)) (by_office n k (office_hears n f s.office from k m) s)
-    office_covers from k (Take x) = record { office = put_own k s.office.desks.at; warden = refl; reader = refl; log = refl; bag = within }
-    office_covers from k (Took e) =
-        cond_both (ltb from n) (took_on n f d from e) (refuse d 1) After
-        (λ _. cond_both (awaits_took from e d) (settle n f (acknowledge from d)) (refuse d 4) After
-        (λ _. cond_both (quorum n f (count n (acknowledge from d).acks)) (quiet (close (acknowledge from d)) ended) (quiet (acknowledge from d) counted) After
-        (λ _. record { office = refl; warden = refl; reader = refl; log = ap (λ (d : Desk). plain.office_event k d (Done ended) ++ s.log) (sym (put_same k (close (acknowledge from d)) s.office.desks.at)); bag = within })
-        (λ _. record { office = refl; warden = refl; reader = refl; log = refl; bag = within }))
-        (λ _. same))
-        (λ _. same)
+    office_covers from k m = go (office_case n f d from m)
       where
         d : Desk
         d = s.office.desks.at k
 
-        After : Step Desk OfficeDone → Type 0
-        After st = Covers (plain.by_office n k st (over bag s)) (by_office n k (keep_counting s.office k st) s)
-
-        same : Covers (plain.by_office n k (refuse d 1) (over bag s)) s
-        same = record { office = put_own k s.office.desks.at; warden = refl; reader = refl; log = refl; bag = within }
-    office_covers from k (Ask r) = record { office = put_own k s.office.desks.at; warden = refl; reader = refl; log = refl; bag = within }
-    office_covers from k (Told r x) = record { office = put_own k s.office.desks.at; warden = refl; reader = refl; log = refl; bag = within }
+        go : {m : Message} {st : Step Desk OfficeDone} → OfficeCase n f d from m st → Covers (plain.by_office n k st (over bag s)) (by_office n k (keep_counting s.office k st) s)
+        go (took_counts below on short) = record { office = refl; warden = refl; reader = refl; log = refl; bag = within }
+        go (took_ends below on all) =
+            record { office = refl; warden = refl; reader = refl; log = ap (λ (d : Desk). plain.office_event k d (Done ended) ++ s.log) (sym (put_same k (close (acknowledge from d)) s.office.desks.at)); bag = within }
+        go (office_passes e) = record { office = put_own k s.office.desks.at; warden = refl; reader = refl; log = refl; bag = within }
 
     -- a warden has taken, or has not
     unchanged : (i k : ℕ) (ps : List Packet) → Covers (record { office = s.office.desks.at; warden = put i (put k ((s.warden i).at k) (s.warden i).at) (λ i. (s.warden i).at); reader = s.reader; bag = ps ++ bag; log = s.log }) (record { office = s.office; warden = put i (s.warden i) s.warden; reader = s.reader; bag = ps ++ s.bag; log = s.log })
-    unchanged i k ps = record { office = refl; warden = own_store i k (λ i. (s.warden i).at) ∙ ap (λ (w : ℕ → Keep Note). λ i. (w i).at) (sym (put_own i s.warden)); reader = refl; log = refl; bag = within_more ps within }
+    unchanged i k ps = record { office = refl; warden = put_cell i k (λ i. (s.warden i).at) ∙ ap (λ (w : ℕ → Keep Note). λ i. (w i).at) (sym (put_own i s.warden)); reader = refl; log = refl; bag = within_more ps within }
 
     warden_covers : (i from k : ℕ) (m : Message) → (brings m ≡ true → from ≡ office → room k (s.warden i) ≡ true) → Covers (plain.by_warden n i k (warden_on ((s.warden i).at k) from m) (over bag s)) (by_warden n i k (warden_keeps (s.warden i) from k m) s)
-    warden_covers i from k (Take x) fits =
-        cond_both (eqb from office) (take_on y x) (refuse y 1) After
-        (λ sent. cond_both (ltb y.edition x.edition) (record { next = x; sends = One office (Took x.edition); outcome = Done taken }) (record { next = y; sends = One office (Took x.edition); outcome = Refused 2 }) After
-        (λ _. cond_both (room k (s.warden i)) (record { next = store k x (s.warden i); sends = One office (Took x.edition); outcome = Done taken }) (refuse (s.warden i) 6) (λ (o : Step (Keep Note) WardenDone). Covers (plain.by_warden n i k (record { next = x; sends = One office (Took x.edition); outcome = Done taken }) (over bag s)) (by_warden n i k o s))
-        (λ _. record { office = refl; warden = at_put i (store k x (s.warden i)) s.warden; reader = refl; log = ap (λ (z : Note). plain.warden_event i k z (Done taken) ++ s.log) (sym (put_same k x (s.warden i).at)); bag = within_more (packets n i k (One office (Took x.edition))) within })
-        (λ full. absurd (clash (sym full ∙ fits refl (eqb-true from office sent)))))
-        (λ _. unchanged i k (packets n i k (One office (Took x.edition)))))
-        (λ _. unchanged i k [])
+    warden_covers i from k m = go (warden_case ((s.warden i).at k) from m)
       where
-        y : Note
-        y = (s.warden i).at k
-
-        After : Step Note WardenDone → Type 0
-        After o = Covers (plain.by_warden n i k o (over bag s)) (by_warden n i k (keep_note (s.warden i) k o) s)
-    warden_covers i from k (Took e) fits = unchanged i k []
-    warden_covers i from k (Ask r) fits = unchanged i k (packets n i k (One from (Told r ((s.warden i).at k))))
-    warden_covers i from k (Told r x) fits = unchanged i k []
+        go : {m : Message} {o : Step Note WardenDone} → WardenCase ((s.warden i).at k) from m o → (brings m ≡ true → from ≡ office → room k (s.warden i) ≡ true) → Covers (plain.by_warden n i k o (over bag s)) (by_warden n i k (keep_note (s.warden i) k o) s)
+        go (warden_takes x own late) fits =
+            cond_both (room k (s.warden i)) (took_step k x (s.warden i)) (refuse (s.warden i) 6) (λ (o : Step (Keep Note) WardenDone). Covers (plain.by_warden n i k (takes_note x) (over bag s)) (by_warden n i k o s))
+            (λ _. record { office = refl; warden = put_map (λ (d : Keep Note). d.at) i (store k x (s.warden i)) s.warden; reader = refl; log = ap (λ (z : Note). plain.warden_event i k z (Done taken) ++ s.log) (sym (put_same k x (s.warden i).at)); bag = within_more (packets n i k (One office (Took x.edition))) within })
+            (λ full. cc (fits refl own))
+        go (warden_had x own early) fits = unchanged i k (packets n i k (One office (Took x.edition)))
+        go (warden_answers r) fits = unchanged i k (packets n i k (One from (Told r ((s.warden i).at k))))
+        go warden_passes fits = unchanged i k []
 
     reader_covers : (j : ℕ) (o : Step Reader ReaderDone) → Covers (plain.by_reader n j o (over bag s)) (by_reader n j o s)
     reader_covers j o = record { office = refl; warden = refl; reader = refl; log = refl; bag = within_more (packets n j o.next.note o.sends) within }
 
     move_lifts : {v : plain.System} → FairPlain (over bag s) v → Reached v s
-    move_lifts (plain.writes k x, so) = absurd (clash so)
+    move_lifts (plain.writes k x, so) = cc
     move_lifts (plain.office_ticks k, so) = tick_lifts k
     move_lifts (plain.office_hears p m to, so) = one (T.office_hear p (within p m) to) so (office_covers p.from p.note p.message)
     move_lifts (plain.warden_hears i p l own m to, so) = one (T.warden_hear i p l own (within p m) to) so (warden_covers i p.from p.note p.message (λ takes from. roomy s i p.note (run_fits n f liar run) ((run_fits n f liar run).posted p (within p m) takes from)))
-    move_lifts (plain.reads j k own, so) = absurd (clash so)
+    move_lifts (plain.reads j k own, so) = cc
     move_lifts (plain.reader_ticks j own, so) = one (T.reader_ticks j own) so (reader_covers j (reader_tick n f (s.reader j)))
     move_lifts (plain.reader_hears j p own m to, so) = one (T.reader_hears j p own (within p m) to) so (reader_covers j (reader_on n f (s.reader j) p.from p.note p.message))
-    move_lifts (plain.office_restarts, so) = absurd (clash so)
-    move_lifts (plain.reader_restarts j first up, so) = absurd (clash so)
-    move_lifts (plain.lies p yes_so other, so) = absurd (clash so)
-    move_lifts (plain.loses i, so) = absurd (clash so)
+    move_lifts (plain.office_restarts, so) = cc
+    move_lifts (plain.reader_restarts j first up, so) = cc
+    move_lifts (plain.lies p yes_so other, so) = cc
+    move_lifts (plain.loses i, so) = cc
 
   covered : {u : plain.System} {s : System} → Covers u s → u ≡ over u.bag s
   covered {u} h = λ t. record { office = h.office t; warden = h.warden t; reader = h.reader t; bag = u.bag; log = h.log t }

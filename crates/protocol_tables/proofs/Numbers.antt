@@ -1,69 +1,44 @@
--- Lists in which every number stands once, and tables that are counted by them.
+-- Tables that are counted by the numbers of what they have.
 -- Assumes nothing.
-use Rattle.std.proofs.Common.{◌≡◌, ℕ, ◌<◌, ◌≤◌, true, false, eqb, List, [], ◌∷◌, length, sym, refl, ◌∙◌, ⊎_elim, arith}
-use mathlib.Core.List.Memᴰ
-use mathlib.Core.List.{Memᴰ}
-use borrow.Author.Tests.{clash}
-use Rattle.std.proofs.lemmas.Bool.{cond_both, cases_eq, cases_Bool, eq-eqb, ne_eqb}
+use Rattle.std.proofs.Common.{◌≡◌, ℕ, ◌<◌, true, false, eqb, List, [], ◌∷◌, length, refl, ⊎_elim, arith}
+use Rattle.std.proofs.lemmas.Bool.{cases_Bool}
+use Rattle.std.proofs.lemmas.Map.Keys.{IsDistinct-cons}
+use Rattle.std.proofs.lemmas.Map.Made.{length-le_from_is_member}
+use Rattle.std.specs.Cmp.{IsEquivalence}
+use Rattle.std.specs.List.{AllByRecursion, IsDistinct}
+use Rattle.std.specs.Set.{is_member}
 use Rattle.protocol_tables.specs.Keep.{Keep, empty, store}
-use Rattle.protocol_tables.specs.Office.{without}
-use Rattle.protocol_tables.proofs.Orders.{in_without}
 
-abbrev pub Once : List ℕ → Type 0
-Once [] = Unit {0}
-Once (x ∷ xs) = (Memᴰ x xs → ⊥) × Once xs
+eqb_laws : IsEquivalence eqb
+eqb_laws = record { refl = λ x. grind arith; symm = λ x y. grind arith; congr = λ x y z e. grind arith }
 
-without_short : (k : ℕ) (xs : List ℕ) → length (without k xs) ≤ length xs
-without_short k [] = omega arith
-without_short k (x ∷ xs) = cond_both (eqb k x) (without k xs) (x ∷ without k xs) (λ l. length l ≤ length (x ∷ xs)) (λ _. omega (arith, without_short k xs)) (λ _. omega (arith, without_short k xs))
-
-without_shorter : (k : ℕ) (xs : List ℕ) → Memᴰ k xs → length (without k xs) < length xs
-without_shorter k [] m = absurd (Memᴰ.not-nil m)
-without_shorter k (x ∷ xs) m =
-    cond_both (eqb k x) (without k xs) (x ∷ without k xs) (λ l. length l < length (x ∷ xs))
-    (λ _. omega (arith, without_short k xs))
-    (λ other. ⊎_elim (λ (is : k ≡ x). absurd (clash (sym other ∙ eq-eqb k x is))) (λ m. omega (arith, without_shorter k xs m)) (Memᴰ.cases_cons m))
-
--- a list in which each stands once is no longer than one that has them all
-pub no_longer : (xs ys : List ℕ) → Once xs → ((k : ℕ) → Memᴰ k xs → Memᴰ k ys) → length xs ≤ length ys
-no_longer [] ys once all = omega arith
-no_longer (x ∷ xs) ys (new, once) all =
-    omega (
-      arith,
-      no_longer xs (without x ys) once (λ k m. in_without x k ys (λ (same : k ≡ x). new (rw same at m)) (all k (Memᴰ.tail m))),
-      without_shorter x ys (all x (Memᴰ.head refl)),
-    )
+-- one that is not in a list differs from each that is
+differs : (k : ℕ) (ks : List ℕ) → is_member eqb ks k ≡ false → AllByRecursion (λ y. eqb k y ≡ false) ks
+differs k [] none = tt
+differs k (x ∷ xs) none = (grind arith, differs k xs (grind arith))
 
 -- the numbers that are had, each once
 pub record Counted {A : Type 0} (d : Keep A) : Type 0 where
   pub numbers : List ℕ
-  pub once : Once numbers
-  pub listed : (k : ℕ) → d.had k ≡ true → Memᴰ k numbers
-  pub had : (k : ℕ) → Memᴰ k numbers → d.had k ≡ true
+  pub once : IsDistinct eqb numbers
+  pub had : (k : ℕ) → d.had k ≡ is_member eqb numbers k
   pub many : d.many ≡ length numbers
 
 pub empty_counted : {A : Type 0} (blank : A) → Counted (empty blank)
-empty_counted blank = record { numbers = []; once = tt; listed = λ k e. absurd (clash e); had = λ k m. absurd (Memᴰ.not-nil m); many = refl }
+unfolding IsDistinct
+empty_counted blank = record { numbers = []; once = tt; had = λ k. refl; many = refl }
 
 module _ {A : Type 0} {d : Keep A} (h : Counted d) (k : ℕ) (a : A) where
   -- one that was had already, and one that was not
   again : d.had k ≡ true → Counted (store k a d)
-  again was =
-      record {
-        numbers = h.numbers;
-        once = h.once;
-        listed = λ x e. ⊎_elim (λ (same : x ≡ k). rw same (h.listed k was)) (λ apart. h.listed x (rw (ne_eqb x k apart) at e)) (cases_eq x k);
-        had = λ x m. ⊎_elim (λ same. rw (eq-eqb x k same)) (λ apart. rw (ne_eqb x k apart) (h.had x m)) (cases_eq x k);
-        many = rw was h.many;
-      }
+  again was = record { numbers = h.numbers; once = h.once; had = λ j. let old = h.had j in grind arith; many = rw was h.many }
 
   anew : d.had k ≡ false → Counted (store k a d)
   anew was =
       record {
         numbers = k ∷ h.numbers;
-        once = (λ m. clash (sym was ∙ h.had k m), h.once);
-        listed = λ x e. ⊎_elim (λ same. Memᴰ.head same) (λ apart. Memᴰ.tail (h.listed x (rw (ne_eqb x k apart) at e))) (cases_eq x k);
-        had = λ x m. ⊎_elim (λ same. rw (eq-eqb x k same)) (λ apart. rw (ne_eqb x k apart) (⊎_elim (λ same. absurd (apart same)) (h.had x) (Memᴰ.cases_cons m))) (cases_eq x k);
+        once = IsDistinct-cons eqb k h.numbers (differs k h.numbers (let is = h.had k in cc)) h.once;
+        had = λ j. let old = h.had j in grind arith;
         many = rw was (omega (arith, h.many));
       }
 
@@ -72,10 +47,7 @@ module _ {A : Type 0} {d : Keep A} (h : Counted d) (k : ℕ) (a : A) where
 
 -- who has what another has, and lacks something of it, has fewer
 pub fewer : {A B : Type 0} {d : Keep A} {e : Keep B} → Counted d → Counted e → ((k : ℕ) → d.had k ≡ true → e.had k ≡ true) → (k : ℕ) → e.had k ≡ true → d.had k ≡ false → d.many < e.many
-fewer {d = d} {e = e} p q all k has lacks =
-    omega (
-      arith,
-      p.many,
-      q.many,
-      no_longer (k ∷ p.numbers) q.numbers (λ m. clash (sym lacks ∙ p.had k m), p.once) (λ x m. q.listed x (⊎_elim (λ (same : x ≡ k). rw same has) (λ m. all x (p.had x m)) (Memᴰ.cases_cons m))),
-    )
+fewer {d = d} {e = e} p q all k has lacks = omega (arith, p.many, q.many, length-le_from_is_member eqb_laws (k ∷ p.numbers) q.numbers (IsDistinct-cons eqb k p.numbers (differs k p.numbers (let is = p.had k in cc)) p.once) in_both)
+  where
+    in_both : (j : ℕ) → is_member eqb (k ∷ p.numbers) j ≡ true → is_member eqb q.numbers j ≡ true
+    in_both j e = let mine = p.had j in let theirs = q.had j in let up = all j in grind arith

@@ -1,17 +1,17 @@
 -- The writings under way are those of the notes that are being written.
 -- Assumes nothing.
-use Rattle.std.proofs.Common.{◌≡◌, ℕ, true, false, not, ◌&&◌, ◌||◌, eqb, ltb, leb, List, [], ◌∷◌, ◌++◌, sym, refl, ◌∙◌, ⊎_elim}
+use Rattle.std.proofs.Common.{◌≡◌, ℕ, true, false, eqb, List, [], ◌∷◌, ◌++◌, sym, refl, ◌∙◌, ⊎_elim, arith}
 use mathlib.Core.List.Memᴰ
 use mathlib.Core.List.{Memᴰ}
-use borrow.Author.Tests.{clash}
-use Rattle.std.proofs.lemmas.Bool.{cond_both, cases_eq, and_parts, eq-eqb, ne_eqb, eqb-true}
-use Rattle.register.specs.Count.{count, put}
-use Rattle.register.specs.Rule.{quorum}
-use Rattle.protocol.specs.Message.{Message, Take, Took, Ask, Told}
-use Rattle.protocol.specs.Step.{Step, Refused, quiet, refuse}
-use Rattle.protocol.specs.Office.{OfficeDone, counted, ended, Desk, last_edition, begin_writing, acknowledge, close, settle, awaits_took, took_on}
-use Rattle.protocol_tables.specs.Keep.{room, store}
-use Rattle.protocol_tables.specs.Office.{Office, OfficeStep, empty_office, leave, without, keep_writing, office_writes, keep_counting, office_hears}
+use Rattle.std.proofs.lemmas.Bool.{cond_both, eqb-true}
+use Rattle.register.proofs.Put.{put_at, put_all}
+use Rattle.protocol.specs.Message.{Message}
+use Rattle.protocol.specs.Step.{Step}
+use Rattle.protocol.specs.Office.{OfficeDone, Desk, begin_writing, acknowledge, close}
+use Rattle.protocol.proofs.PartyCases.{OfficeCase, took_counts, took_ends, office_passes, office_case}
+use Rattle.protocol_tables.specs.Keep.{store}
+use Rattle.protocol_tables.specs.Office.{Office, OfficeStep, empty_office, without, office_writes, keep_counting, office_hears}
+use Rattle.protocol_tables.proofs.TableCases.{Written, begins_it, refuses, written}
 
 pub record Ordered (o : Office) : Type 0 where
   pub busy : (k : ℕ) → Memᴰ k o.under_way → (o.desks.at k).busy ≡ true
@@ -22,7 +22,7 @@ not_in_without k x [] = λ m. absurd (Memᴰ.not-nil m)
 not_in_without k x (y ∷ xs) =
     cond_both (eqb k y) (without k xs) (y ∷ without k xs) (λ l. Memᴰ x l → (x ≡ k → ⊥) × Memᴰ x (y ∷ xs))
     (λ _ m. let (apart, at) = not_in_without k x xs m in (apart, Memᴰ.tail at))
-    (λ other m. ⊎_elim (λ (is : x ≡ y). (λ (same : x ≡ k). absurd (clash (sym other ∙ eq-eqb k y (sym same ∙ is))), Memᴰ.head is)) (λ m. let (apart, at) = not_in_without k x xs m in (apart, Memᴰ.tail at)) (Memᴰ.cases_cons m))
+    (λ other m. ⊎_elim (λ (is : x ≡ y). (λ (same : x ≡ k). grind arith, Memᴰ.head is)) (λ m. let (apart, at) = not_in_without k x xs m in (apart, Memᴰ.tail at)) (Memᴰ.cases_cons m))
 
 pub in_without : (k x : ℕ) (xs : List ℕ) → (x ≡ k → ⊥) → Memᴰ x xs → Memᴰ x (without k xs)
 in_without k x [] apart m = m
@@ -30,13 +30,6 @@ in_without k x (y ∷ xs) apart m =
     cond_both (eqb k y) (without k xs) (y ∷ without k xs) (Memᴰ x)
     (λ same. ⊎_elim (λ (is : x ≡ y). absurd (apart (is ∙ sym (eqb-true k y same)))) (in_without k x xs apart) (Memᴰ.cases_cons m))
     (λ _. ⊎_elim (λ is. Memᴰ.head is) (λ m. Memᴰ.tail (in_without k x xs apart m)) (Memᴰ.cases_cons m))
-
--- what holds of the desk that was put there, and of the others
-at_put : (P : Desk → Type 0) (x k : ℕ) (d : Desk) (g : ℕ → Desk) → (x ≡ k → P d) → ((x ≡ k → ⊥) → P (g x)) → P (put k d g x)
-at_put P x k d g here there = ⊎_elim (λ same. rw (eq-eqb x k same) (here same)) (λ apart. rw (ne_eqb x k apart) (there apart)) (cases_eq x k)
-
-from_put : {A : Type 0} (x k : ℕ) (d : Desk) (g : ℕ → Desk) → (put k d g x).busy ≡ true → (x ≡ k → d.busy ≡ true → A) → ((x ≡ k → ⊥) → (g x).busy ≡ true → A) → A
-from_put x k d g on here there = ⊎_elim (λ same. here same (rw (eq-eqb x k same) at on)) (λ apart. there apart (rw (ne_eqb x k apart) at on)) (cases_eq x k)
 
 module _ {o : Office} (h : Ordered o) (k : ℕ) (d : Desk) where
   abbrev On : Desk → Type 0
@@ -46,28 +39,28 @@ module _ {o : Office} (h : Ordered o) (k : ℕ) (d : Desk) where
   begun_ordered : d.busy ≡ true → Ordered (record { desks = store k d o.desks; under_way = o.under_way ++ (k ∷ []) })
   begun_ordered busy =
       record {
-        busy = λ x m. at_put On x k d o.desks.at (λ _. busy) (λ apart. ⊎_elim (h.busy x) (λ m. absurd (apart (Memᴰ.eq_of_singleton m))) (Memᴰ.append_cases o.under_way m));
-        listed = λ x on. from_put x k d o.desks.at on (λ same _. Memᴰ.append_right o.under_way (Memᴰ.head same)) (λ _ on. Memᴰ.append_left (k ∷ []) (h.listed x on));
+        busy = λ x m. put_at On x k d o.desks.at (λ _. busy) (λ apart. ⊎_elim (h.busy x) (λ m. absurd (apart (Memᴰ.eq_of_singleton m))) (Memᴰ.append_cases o.under_way m));
+        listed = put_all (λ x c. On c → Memᴰ x (o.under_way ++ (k ∷ []))) k d o.desks.at (λ _. Memᴰ.append_right o.under_way (Memᴰ.head refl)) (λ x on. Memᴰ.append_left (k ∷ []) (h.listed x on));
       }
 
   -- it is still being written
   counted_ordered : (o.desks.at k).busy ≡ true → d.busy ≡ true → Ordered (record { desks = store k d o.desks; under_way = o.under_way })
   counted_ordered was busy =
       record {
-        busy = λ x m. at_put On x k d o.desks.at (λ _. busy) (λ _. h.busy x m);
-        listed = λ x on. from_put x k d o.desks.at on (λ same _. rw same (h.listed k was)) (λ _ on. h.listed x on);
+        busy = put_all (λ x c. Memᴰ x o.under_way → On c) k d o.desks.at (λ _. busy) h.busy;
+        listed = put_all (λ x c. On c → Memᴰ x o.under_way) k d o.desks.at (λ _. h.listed k was) h.listed;
       }
 
   -- it is no longer being written
   pub ended_ordered : d.busy ≡ false → Ordered (record { desks = store k d o.desks; under_way = without k o.under_way })
   ended_ordered idle =
       record {
-        busy = λ x m. let (apart, at) = not_in_without k x o.under_way m in at_put On x k d o.desks.at (λ same. absurd (apart same)) (λ _. h.busy x at);
-        listed = λ x on. from_put x k d o.desks.at on (λ _ on. absurd (clash (sym idle ∙ on))) (λ apart on. in_without k x o.under_way apart (h.listed x on));
+        busy = λ x m. let (apart, at) = not_in_without k x o.under_way m in put_at On x k d o.desks.at (λ same. absurd (apart same)) (λ _. h.busy x at);
+        listed = λ x. put_at (λ c. On c → Memᴰ x (without k o.under_way)) x k d o.desks.at (λ _ on. cc) (λ apart on. in_without k x o.under_way apart (h.listed x on));
       }
 
 pub empty_ordered : Ordered empty_office
-empty_ordered = record { busy = λ k m. absurd (Memᴰ.not-nil m); listed = λ k e. absurd (clash e) }
+empty_ordered = record { busy = λ k m. absurd (Memᴰ.not-nil m); listed = λ k e. cc }
 
 -- a writing that began, with its letter
 abbrev pub started : Office → (k : ℕ) → List ℕ → OfficeStep
@@ -76,31 +69,17 @@ started o k v =
     record { next = record { desks = store k s.next o.desks; under_way = o.under_way ++ (k ∷ []) }; letters = record { note = k; sends = s.sends } ∷ []; outcome = s.outcome }
 
 module _ (o : Office) (h : Ordered o) (k : ℕ) where
-  abbrev Keeps : OfficeStep → Type 0
-  Keeps s = Ordered s.next
-
   pub write_ordered : (v : List ℕ) → Ordered (office_writes o k v).next
-  write_ordered v =
-      cond_both ((o.desks.at k).busy || leb last_edition (o.desks.at k).now.edition) (refuse (o.desks.at k) 5) (begin_writing (o.desks.at k) v) (λ (s : Step Desk OfficeDone). Ordered (keep_writing o k s).next)
-      (λ _. h)
-      (λ _. cond_both (room k o.desks) (started o k v) (leave o (Refused 6)) Keeps (λ _. begun_ordered h k (begin_writing (o.desks.at k) v).next refl) (λ _. h))
+  write_ordered v = go (written o k v)
+    where
+      go : {s : OfficeStep} → Written o k v s → Ordered s.next
+      go (begins_it ready) = begun_ordered h k (begin_writing (o.desks.at k) v).next refl
+      go (refuses m) = h
 
   pub hear_ordered : (n f from : ℕ) (m : Message) → Ordered (office_hears n f o from k m).next
-  hear_ordered n f from (Take x) = h
-  hear_ordered n f from (Took e) =
-      cond_both (ltb from n) (took_on n f d from e) (refuse d 1) After
-      (λ _. cond_both (awaits_took from e d) (settle n f (acknowledge from d)) (refuse d 4) After
-      (λ so. let (busy, _) = and_parts d.busy (eqb e d.now.edition && not (d.acks from)) so in
-      cond_both (quorum n f (count n (acknowledge from d).acks)) (quiet (close (acknowledge from d)) ended) (quiet (acknowledge from d) counted) After
-      (λ _. ended_ordered h k (close (acknowledge from d)) refl)
-      (λ _. counted_ordered h k (acknowledge from d) busy busy))
-      (λ _. h))
-      (λ _. h)
+  hear_ordered n f from m = go (office_case n f (o.desks.at k) from m)
     where
-      d : Desk
-      d = o.desks.at k
-
-      After : Step Desk OfficeDone → Type 0
-      After s = Ordered (keep_counting o k s).next
-  hear_ordered n f from (Ask r) = h
-  hear_ordered n f from (Told r x) = h
+      go : {m : Message} {st : Step Desk OfficeDone} → OfficeCase n f (o.desks.at k) from m st → Ordered (keep_counting o k st).next
+      go (took_counts below on short) = counted_ordered h k (acknowledge from (o.desks.at k)) on on
+      go (took_ends below on all) = ended_ordered h k (close (acknowledge from (o.desks.at k))) refl
+      go (office_passes e) = h

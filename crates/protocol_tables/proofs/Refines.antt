@@ -1,31 +1,26 @@
 -- Every run with tables is a run without bounds.
 -- Assumes nothing.
-use Rattle.std.proofs.Common.{◌≡◌, ℕ, Bool, true, ◌||◌, eqb, ltb, leb, List, [], ◌∷◌, ◌++◌, map, sym, refl, ap, ◌∙◌, subst}
-use mathlib.Core.Path.{fun_ext}
+use Rattle.std.proofs.Common.{◌≡◌, ℕ, Bool, true, List, [], ◌∷◌, ◌++◌, map, sym, refl, ap, ◌∙◌, subst}
 use mathlib.Core.List.{Memᴰ}
 use Rattle.std.proofs.lemmas.Bool.{cond_both, cond-true}
-use Rattle.register.specs.Count.{count, put}
+use Rattle.register.specs.Count.{put}
 use Rattle.register.specs.Note.{Note, none}
-use Rattle.register.specs.Rule.{quorum}
-use Rattle.register.proofs.Put.{put_both, put_same}
-use Rattle.protocol.specs.Message.{office, Message, Take, Took, Ask, Told, Packet, One, Each, packets}
+use Rattle.register.proofs.Put.{put_same, put_own, put_cell, put_map}
+use Rattle.protocol.specs.Message.{office, Message, Take, Took, Told, Packet, One, Each, packets}
 use Rattle.protocol.specs.Step.{Step, Done, Refused, quiet, refuse}
-use Rattle.protocol.specs.Warden.{WardenDone, taken, take_on, warden_on}
-use Rattle.protocol.specs.Office.{OfficeDone, no_writing, counted, ended, Desk, last_edition, begin_writing, resend, acknowledge, close, settle, awaits_took, took_on}
+use Rattle.protocol.specs.Warden.{WardenDone, taken, warden_on}
+use Rattle.protocol.specs.Office.{OfficeDone, no_writing, ended, Desk, begin_writing, resend, acknowledge, close}
 use Rattle.protocol.specs.Log.{Log}
 use Rattle.protocol.specs.System as plain
-use Rattle.protocol.proofs.Ways.{put_own, own_store}
 use Rattle.protocol.proofs.Follows as F
+use Rattle.protocol.proofs.PartyCases.{takes_note, WardenCase, warden_takes, warden_had, warden_answers, warden_passes, warden_case, WriteCase, write_begins, write_refused, write_case, OfficeCase, took_counts, took_ends, office_passes, office_case}
 use Rattle.protocol_tables.specs.Keep.{Keep, empty, room, store}
 use Rattle.protocol_tables.specs.Warden.{keep_note, warden_keeps}
 use Rattle.protocol_tables.specs.Office.{OfficeStep, post, leave, keep_writing, office_writes, keep_counting, office_hears, again}
 use Rattle.protocol_tables.specs.System.{System, by_office, by_warden, unbounded, Move, writes, office_hear, warden_hear, reads, reader_ticks, reader_hears, office_restarts, reader_restarts, lies, loses, Run, begin, then, Refines, Holds}
 use Rattle.protocol_tables.specs.System as T
+use Rattle.protocol_tables.proofs.TableCases.{took_step}
 use Rattle.protocol_tables.proofs.Orders.{Ordered, empty_ordered, started, write_ordered, hear_ordered}
-
--- what the wardens have, after one of them has changed
-pub at_put : (i : ℕ) (d : Keep Note) (w : ℕ → Keep Note) → ◌≡◌ {A = ℕ → ℕ → Note} (put i d.at (λ i'. (w i').at)) (λ i'. (put i d w i').at)
-at_put i d w = fun_ext (put_both (λ _ (a : ℕ → Note) (b : Keep Note). a ≡ b.at) i d.at d (λ i'. (w i').at) w refl (λ _. refl))
 
 module _ (n f : ℕ) (liar : ℕ → Bool) (s : System) where
   abbrev Plain : plain.System → Type 0
@@ -36,34 +31,26 @@ module _ (n f : ℕ) (liar : ℕ → Bool) (s : System) where
   stored k st run = rw (put_same k st.next s.office.desks.at) run
 
   write_plain : (k : ℕ) (v : List ℕ) → Plain (unbounded s) → Plain (unbounded (by_office n k (office_writes s.office k v) s))
-  write_plain k v run =
-      cond_both (d.busy || leb last_edition d.now.edition) (refuse d 5) (begin_writing d v) (λ (st : Step Desk OfficeDone). Plain (plain.by_office n k st (unbounded s)) → Plain (unbounded (by_office n k (keep_writing s.office k st) s)))
-      (λ _ _. run)
-      (λ _ on. cond_both (room k s.office.desks) (started s.office k v) (leave s.office (Refused 6)) (λ (o : OfficeStep). Plain (unbounded (by_office n k o s))) (λ _. stored k (begin_writing d v) on) (λ _. run))
-      (plain.then run (plain.writes k v))
+  write_plain k v run = go (write_case d v) (plain.then run (plain.writes k v))
     where
       d : Desk
       d = s.office.desks.at k
+
+      go : {st : Step Desk OfficeDone} → WriteCase d v st → Plain (plain.by_office n k st (unbounded s)) → Plain (unbounded (by_office n k (keep_writing s.office k st) s))
+      go (write_begins idle low) on =
+          cond_both (room k s.office.desks) (started s.office k v) (leave s.office (Refused 6)) (λ (o : OfficeStep). Plain (unbounded (by_office n k o s))) (λ _. stored k (begin_writing d v) on) (λ _. run)
+      go write_refused on = run
 
   hear_plain : (from k : ℕ) (m : Message) → Memᴰ (record { from = from; to = office; note = k; message = m }) s.bag → Plain (unbounded s) → Plain (unbounded (by_office n k (office_hears n f s.office from k m) s))
-  hear_plain from k (Take x) at run = run
-  hear_plain from k (Took e) at run =
-      cond_both (ltb from n) (took_on n f d from e) (refuse d 1) After
-      (λ _. cond_both (awaits_took from e d) (settle n f (acknowledge from d)) (refuse d 4) After
-      (λ _. cond_both (quorum n f (count n (acknowledge from d).acks)) (quiet (close (acknowledge from d)) ended) (quiet (acknowledge from d) counted) After
-      (λ _ on. stored k (quiet (close (acknowledge from d)) ended) on)
-      (λ _ on. on))
-      (λ _ _. run))
-      (λ _ _. run)
-      (plain.then run (plain.office_hears (record { from = from; to = office; note = k; message = Took e }) at refl))
+  hear_plain from k m at run = go (office_case n f d from m) (plain.then run (plain.office_hears (record { from = from; to = office; note = k; message = m }) at refl))
     where
       d : Desk
       d = s.office.desks.at k
 
-      After : Step Desk OfficeDone → Type 0
-      After st = Plain (plain.by_office n k st (unbounded s)) → Plain (unbounded (by_office n k (keep_counting s.office k st) s))
-  hear_plain from k (Ask r) at run = run
-  hear_plain from k (Told r x) at run = run
+      go : {m : Message} {st : Step Desk OfficeDone} → OfficeCase n f d from m st → Plain (plain.by_office n k st (unbounded s)) → Plain (unbounded (by_office n k (keep_counting s.office k st) s))
+      go (took_counts below busy short) on = on
+      go (took_ends below busy all) on = stored k (quiet (close (acknowledge from d)) ended) on
+      go (office_passes e) on = run
 
   -- each writing under way is sent again, one after the other
   resend_plain : (ks : List ℕ) (bag : List Packet) → ((k : ℕ) → Memᴰ k ks → (s.office.desks.at k).busy ≡ true) → Plain (record { office = s.office.desks.at; warden = λ i. (s.warden i).at; reader = s.reader; bag = bag; log = s.log }) → Plain (record { office = s.office.desks.at; warden = λ i. (s.warden i).at; reader = s.reader; bag = post n (map (again s.office.desks) ks) bag; log = s.log })
@@ -85,7 +72,7 @@ module _ (n f : ℕ) (liar : ℕ → Bool) (s : System) where
     Wardens w bag log = Plain (record { office = s.office.desks.at; warden = w; reader = s.reader; bag = bag; log = log })
 
     same_plain : (bag : List Packet) → Wardens (put i (put k ((s.warden i).at k) (s.warden i).at) (λ i. (s.warden i).at)) bag s.log → Wardens (λ i'. (put i (s.warden i) s.warden i').at) bag s.log
-    same_plain bag run = subst (λ (w : ℕ → ℕ → Note). Wardens w bag s.log) (own_store i k (λ i. (s.warden i).at) ∙ ap (λ (w : ℕ → Keep Note). λ i. (w i).at) (sym (put_own i s.warden))) run
+    same_plain bag run = subst (λ (w : ℕ → ℕ → Note). Wardens w bag s.log) (put_cell i k (λ i. (s.warden i).at) ∙ ap (λ (w : ℕ → Keep Note). λ i. (w i).at) (sym (put_own i s.warden))) run
 
     unchanged_plain : Plain (unbounded s) → Wardens (λ i'. (put i (s.warden i) s.warden i').at) s.bag s.log
     unchanged_plain run = subst (λ (w : ℕ → ℕ → Note). Wardens w s.bag s.log) (ap (λ (w : ℕ → Keep Note). λ i. (w i).at) (sym (put_own i s.warden))) run
@@ -93,23 +80,23 @@ module _ (n f : ℕ) (liar : ℕ → Bool) (s : System) where
     abbrev After : Step Note WardenDone → Type 0
     After st = Plain (plain.by_warden n i k st (unbounded s)) → Plain (unbounded (by_warden n i k (keep_note (s.warden i) k st) s))
 
-    took_plain : (x : Note) → Plain (unbounded s) → After (record { next = x; sends = One office (Took x.edition); outcome = Done taken })
+    took_plain : (x : Note) → Plain (unbounded s) → After (takes_note x)
     took_plain x run on =
-        cond_both (room k (s.warden i)) (record { next = store k x (s.warden i); sends = One office (Took x.edition); outcome = Done taken }) (refuse (s.warden i) 6) (λ (o : Step (Keep Note) WardenDone). Plain (unbounded (by_warden n i k o s)))
-        (λ _. subst (λ (w : ℕ → ℕ → Note). Wardens w (packets n i k (One office (Took x.edition)) ++ s.bag) (plain.warden_event i k (put k x (s.warden i).at k) (Done taken) ++ s.log)) (at_put i (store k x (s.warden i)) s.warden) (rw (put_same k x (s.warden i).at) on))
+        cond_both (room k (s.warden i)) (took_step k x (s.warden i)) (refuse (s.warden i) 6) (λ (o : Step (Keep Note) WardenDone). Plain (unbounded (by_warden n i k o s)))
+        (λ _. subst (λ (w : ℕ → ℕ → Note). Wardens w (packets n i k (One office (Took x.edition)) ++ s.bag) (plain.warden_event i k (put k x (s.warden i).at k) (Done taken) ++ s.log)) (put_map (λ (d : Keep Note). d.at) i (store k x (s.warden i)) s.warden) (rw (put_same k x (s.warden i).at) on))
         (λ _. unchanged_plain run)
 
-    warden_plain : (from to : ℕ) (m : Message) → Plain (unbounded s) → Plain (plain.by_warden n i k (warden_on ((s.warden i).at k) from m) (unbounded s)) → Plain (unbounded (by_warden n i k (warden_keeps (s.warden i) from k m) s))
-    warden_plain from to (Take x) run =
-        cond_both (eqb from office) (take_on y x) (refuse y 1) After
-        (λ _. cond_both (ltb y.edition x.edition) (record { next = x; sends = One office (Took x.edition); outcome = Done taken }) (record { next = y; sends = One office (Took x.edition); outcome = Refused 2 }) After (λ _. took_plain x run) (λ _. same_plain (packets n i k (One office (Took x.edition)) ++ s.bag)))
-        (λ _. same_plain s.bag)
+    warden_plain : (from : ℕ) (m : Message) → Plain (unbounded s) → Plain (plain.by_warden n i k (warden_on ((s.warden i).at k) from m) (unbounded s)) → Plain (unbounded (by_warden n i k (warden_keeps (s.warden i) from k m) s))
+    warden_plain from m run = go (warden_case y from m)
       where
         y : Note
         y = (s.warden i).at k
-    warden_plain from to (Took e) run = same_plain s.bag
-    warden_plain from to (Ask r) run = same_plain (packets n i k (One from (Told r ((s.warden i).at k))) ++ s.bag)
-    warden_plain from to (Told r x) run = same_plain s.bag
+
+        go : {m : Message} {o : Step Note WardenDone} → WardenCase y from m o → After o
+        go (warden_takes x own late) = took_plain x run
+        go (warden_had x own early) = same_plain (packets n i k (One office (Took x.edition)) ++ s.bag)
+        go (warden_answers r) = same_plain (packets n i k (One from (Told r y)) ++ s.bag)
+        go warden_passes = same_plain s.bag
 
 -- what every run keeps
 pub record Kept (n f : ℕ) (liar : ℕ → Bool) (s : System) : Type 0 where
@@ -121,7 +108,7 @@ module _ (n f : ℕ) (liar : ℕ → Bool) where
   kept_by {s} (writes k v) h = record { order = write_ordered s.office h.order k v; run = write_plain n f liar s k v h.run }
   kept_by {s} T.office_tick h = record { order = h.order; run = resend_plain n f liar s s.office.under_way s.bag h.order.busy h.run }
   kept_by {s} (office_hear p m to) h = record { order = hear_ordered s.office h.order p.note n f p.from p.message; run = hear_plain n f liar s p.from p.note p.message (rw to at m) h.run }
-  kept_by {s} (warden_hear i p l honest m to) h = record { order = h.order; run = warden_plain n f liar s i p.note p.from p.to p.message h.run (plain.then h.run (plain.warden_hears i p l honest m to)) }
+  kept_by {s} (warden_hear i p l honest m to) h = record { order = h.order; run = warden_plain n f liar s i p.note p.from p.message h.run (plain.then h.run (plain.warden_hears i p l honest m to)) }
   kept_by (reads j k fair) h = record { order = h.order; run = plain.then h.run (plain.reads j k fair) }
   kept_by (reader_ticks j fair) h = record { order = h.order; run = plain.then h.run (plain.reader_ticks j fair) }
   kept_by (reader_hears j p fair m to) h = record { order = h.order; run = plain.then h.run (plain.reader_hears j p fair m to) }
@@ -131,7 +118,7 @@ module _ (n f : ℕ) (liar : ℕ → Bool) where
   kept_by {s} (loses i) h =
       record {
         order = h.order;
-        run = subst (λ (w : ℕ → ℕ → Note). plain.Run n f liar (record { office = s.office.desks.at; warden = w; reader = s.reader; bag = s.bag; log = (plain.warden_lost i (unbounded s)).log })) (at_put i (empty none) s.warden) (plain.then h.run (plain.loses i));
+        run = subst (λ (w : ℕ → ℕ → Note). plain.Run n f liar (record { office = s.office.desks.at; warden = w; reader = s.reader; bag = s.bag; log = (plain.warden_lost i (unbounded s)).log })) (put_map (λ (d : Keep Note). d.at) i (empty none) s.warden) (plain.then h.run (plain.loses i));
       }
 
   pub run_kept : {s : System} → Run n f liar s → Kept n f liar s

@@ -1,29 +1,30 @@
 -- A warden has no notes but those that the office has, so it always has room.
 -- Assumes nothing.
-use Rattle.std.proofs.Common.{◌≡◌, ℕ, ◌-◌, ◌≤◌, Bool, true, false, cond, not, ◌&&◌, ◌||◌, eqb, ltb, leb, ◌⊎◌, List, [], ◌∷◌, ◌++◌, map, sym, refl, ap, ◌∙◌, inl, inr, ⊎_elim, arith}
+use Rattle.std.proofs.Common.{◌≡◌, ℕ, ◌≤◌, Bool, true, false, cond, ◌⊎◌, List, [], ◌∷◌, ◌++◌, map, sym, refl, ap, ◌∙◌, inl, inr, ⊎_elim, arith}
 use mathlib.Core.List.Memᴰ
 use mathlib.Core.List.{Memᴰ}
 use borrow.Author.Tests.{clash}
-use Rattle.std.proofs.lemmas.Bool.{cond_both, and_parts, cases_eq, cases_Bool, eq-eqb, ne_eqb, eqb-true, lt-ltb}
-use Rattle.register.specs.Count.{count, put}
+use Rattle.std.proofs.lemmas.Bool.{cond_both, cases_Bool, eq-eqb, lt-ltb}
+use Rattle.register.specs.Count.{put}
 use Rattle.register.specs.Note.{Note, none}
-use Rattle.register.specs.Rule.{quorum, Reading, Found, Nothing, pick}
-use Rattle.register.proofs.Put.{put_all}
+use Rattle.register.specs.Rule.{Reading, pick}
+use Rattle.register.proofs.Put.{put_all, put_both, put_stay}
 use Rattle.protocol.specs.Message.{office, Message, Take, Took, Ask, Told, Packet, Sends, One, Each, packets}
 use Rattle.protocol.specs.Message as words
-use Rattle.protocol.specs.Step.{Step, Done, Refused, quiet, refuse}
-use Rattle.protocol.specs.Warden.{WardenDone, taken, take_on}
-use Rattle.protocol.specs.Office.{OfficeDone, counted, ended, Desk, empty_desk, last_edition, begin_writing, acknowledge, close, settle, awaits_took, took_on}
-use Rattle.protocol.specs.Reader.{ReaderDone, asked, retried, no_reading, heard, undecided, unsure, Reader, more_rounds, used_up, in_round, begin_round, read_on, decided, ask_again, reader_tick, awaits_told, hear, over, decide, settle_round, told_on, reader_on}
+use Rattle.protocol.specs.Step.{Step, Refused}
+use Rattle.protocol.specs.Warden.{WardenDone}
+use Rattle.protocol.specs.Office.{OfficeDone, Desk, empty_desk, begin_writing, acknowledge, close, office_on}
+use Rattle.protocol.specs.Reader.{ReaderDone, asked, Reader, more_rounds, begin_round, read_on, reader_tick, hear, reader_on}
 use Rattle.protocol.specs.Log as L
 use Rattle.protocol.proofs.Packets.{of_each}
+use Rattle.protocol.proofs.PartyCases.{OfficeCase, took_counts, took_ends, office_passes, office_case, RoundCase, round_opens, round_refused, round_case, TickCase, tick_opens, tick_refused, tick_again, tick_idle, tick_case, DecideCase, decide_reads, decide_waits, decide_doubts, decide_case, ReaderCase, told_counts, told_decides, reader_passes, reader_case}
 use Rattle.protocol_tables.specs.Keep.{most, Keep, empty, room, store}
-use Rattle.protocol_tables.specs.Warden.{keep_note, warden_keeps}
-use Rattle.protocol_tables.specs.Office.{Office, Letter, OfficeStep, post, leave, keep_writing, office_writes, keep_counting, office_hears, again, office_ticks}
+use Rattle.protocol_tables.specs.Warden.{warden_keeps}
+use Rattle.protocol_tables.specs.Office.{Office, Letter, OfficeStep, post, leave, without, counts, ends, office_writes, keep_counting, office_hears, again, office_ticks}
 use Rattle.protocol_tables.specs.System.{System, Move, writes, office_tick, office_hear, warden_hear, reads, reader_ticks, reader_hears, office_restarts, reader_restarts, lies, loses, Run, begin, then}
 use Rattle.protocol_tables.specs.System as T
 use Rattle.protocol_tables.specs.Progress.{NeverFull}
-use Rattle.protocol_tables.proofs.Orders.{started}
+use Rattle.protocol_tables.proofs.TableCases.{KeepCase, keep_takes, keep_full, keep_had, keep_answers, keep_passes, keep_case, Written, begins_it, refuses, written}
 use Rattle.protocol_tables.proofs.Refines.{run_kept}
 use Rattle.protocol_tables.proofs.Numbers.{Counted, empty_counted, store_counted, fewer}
 
@@ -47,40 +48,28 @@ storing {o} h k d ks roomy =
       fits = record {
         counted = store_counted h.counted k d;
         few = let old = h.few in grind arith;
-        busy = λ x e. ⊎_elim (λ same. rw (eq-eqb x k same)) (λ apart. rw (ne_eqb x k apart) (h.busy x (rw (ne_eqb x k apart) at e))) (cases_eq x k);
+        busy = put_both (λ _ (c : Desk) b. c.busy ≡ true → b ≡ true) k d true o.desks.at o.desks.had (λ _. refl) h.busy;
       };
-      grows = λ x e. ⊎_elim (λ same. rw (eq-eqb x k same)) (λ apart. rw (ne_eqb x k apart) e) (cases_eq x k);
+      grows = put_stay k o.desks.had;
     }
 
 pub write_goes : {o : Office} → OfficeFits o → (k : ℕ) (v : List ℕ) → OfficeGoes o (office_writes o k v).next
-write_goes {o} h k v =
-    cond_both (d.busy || leb last_edition d.now.edition) (refuse d 5) (begin_writing d v) (λ (s : Step Desk OfficeDone). OfficeGoes o (keep_writing o k s).next)
-    (λ _. stays h)
-    (λ _. cond_both (room k o.desks) (started o k v) (leave o (Refused 6)) (λ (s : OfficeStep). OfficeGoes o s.next) (λ roomy. storing h k (begin_writing d v).next (o.under_way ++ (k ∷ [])) roomy) (λ _. stays h))
+write_goes {o} h k v = go (written o k v)
   where
-    d : Desk
-    d = o.desks.at k
+    go : {s : OfficeStep} → Written o k v s → OfficeGoes o s.next
+    go (begins_it ready) = storing h k (begin_writing (o.desks.at k) v).next (o.under_way ++ (k ∷ [])) ready.roomy
+    go (refuses m) = stays h
 
 pub hear_goes : {o : Office} → OfficeFits o → (n f from k : ℕ) (m : Message) → OfficeGoes o (office_hears n f o from k m).next
-hear_goes h n f from k (Take x) = stays h
-hear_goes {o} h n f from k (Took e) =
-    cond_both (ltb from n) (took_on n f d from e) (refuse d 1) After
-    (λ _. cond_both (awaits_took from e d) (settle n f (acknowledge from d)) (refuse d 4) After
-    (λ so. let (busy, _) = and_parts d.busy (eqb e d.now.edition && not (d.acks from)) so in
-    let roomy : room k o.desks ≡ true = rw (h.busy k busy) in
-    cond_both (quorum n f (count n (acknowledge from d).acks)) (quiet (close (acknowledge from d)) ended) (quiet (acknowledge from d) counted) After
-    (λ _. storing h k (close (acknowledge from d)) (keep_counting o k (quiet (close (acknowledge from d)) ended)).next.under_way roomy)
-    (λ _. storing h k (acknowledge from d) o.under_way roomy))
-    (λ _. stays h))
-    (λ _. stays h)
+hear_goes {o} h n f from k m = go (office_case n f d from m)
   where
     d : Desk
     d = o.desks.at k
 
-    After : Step Desk OfficeDone → Type 0
-    After s = OfficeGoes o (keep_counting o k s).next
-hear_goes h n f from k (Ask r) = stays h
-hear_goes h n f from k (Told r x) = stays h
+    go : {m : Message} {st : Step Desk OfficeDone} → OfficeCase n f d from m st → OfficeGoes o (keep_counting o k st).next
+    go (took_counts below on short) = storing h k (acknowledge from d) o.under_way (rw (h.busy k on))
+    go (took_ends below on all) = storing h k (close (acknowledge from d)) (without k o.under_way) (rw (h.busy k on))
+    go (office_passes e) = stays h
 
 -- WHAT IS SENT
 -- it asks to take a note
@@ -102,21 +91,14 @@ plain_sends n from k (One to x) so p m e = clash (sym so ∙ (rw (Memᴰ.eq_of_s
 plain_sends n from k (Each x) so p m e = let (i, l, is) = of_each n (λ i. record { from = from; to = i; note = k; message = x }) p m in clash (sym so ∙ (rw is at e))
 
 pub warden_plain : (d : Keep Note) (from k : ℕ) (m : Message) → Plain (warden_keeps d from k m).sends
-warden_plain d from k (Take x) =
-    cond_both (eqb from office) (take_on y x) (refuse y 1) After
-    (λ _. cond_both (ltb y.edition x.edition) (record { next = x; sends = One office (Took x.edition); outcome = Done taken }) (record { next = y; sends = One office (Took x.edition); outcome = Refused 2 }) After
-    (λ _. cond_both (room k d) (record { next = store k x d; sends = One office (Took x.edition); outcome = Done taken }) (refuse d 6) (λ (o : Step (Keep Note) WardenDone). Plain o.sends) (λ _. refl) (λ _. tt))
-    (λ _. refl))
-    (λ _. tt)
+warden_plain d from k m = go (keep_case d from k m)
   where
-    y : Note
-    y = d.at k
-
-    After : Step Note WardenDone → Type 0
-    After o = Plain (keep_note d k o).sends
-warden_plain d from k (Took e) = tt
-warden_plain d from k (Ask r) = refl
-warden_plain d from k (Told r x) = tt
+    go : {m : Message} {o : Step (Keep Note) WardenDone} → KeepCase d from k m o → Plain o.sends
+    go (keep_takes x own late roomy) = refl
+    go (keep_full x own full) = tt
+    go (keep_had x) = refl
+    go (keep_answers r) = refl
+    go keep_passes = tt
 
 -- a reader sends nothing, or asks each warden
 abbrev pub Asks : Sends → Type 0
@@ -129,41 +111,40 @@ asks_plain words.Nothing so = tt
 asks_plain (One to m) so = absurd so
 asks_plain (Each m) (r, is) = rw is
 
-abbrev ReaderAsks : Step Reader ReaderDone → Type 0
-ReaderAsks o = Asks o.sends
-
 pub round_asks : (k left : ℕ) (how : ReaderDone) (q : Reader) → Asks (begin_round k left how q).sends
-round_asks k left how q = cond_both (used_up q) (refuse q 5) (record { next = in_round k left q; sends = Each (Ask q.next); outcome = Done how }) ReaderAsks (λ _. tt) (λ _. (q.next, refl))
+round_asks k left how q = go (round_case k left how q)
+  where
+    go : {o : Step Reader ReaderDone} → RoundCase k left how q o → Asks o.sends
+    go round_opens = (q.next, refl)
+    go round_refused = tt
 
 pub tick_asks : (n f : ℕ) (q : Reader) → Asks (reader_tick n f q).sends
-tick_asks n f q =
-    cond_both q.busy (cond (decided n f q) (begin_round q.note (q.left - 1) retried q) (ask_again q)) (quiet q no_reading) ReaderAsks
-    (λ _. cond_both (decided n f q) (begin_round q.note (q.left - 1) retried q) (ask_again q) ReaderAsks (λ _. round_asks q.note (q.left - 1) retried q) (λ _. (q.round, refl)))
-    (λ _. tt)
+tick_asks n f q = go (tick_case n f q)
+  where
+    go : {o : Step Reader ReaderDone} → TickCase n f q o → Asks o.sends
+    go (tick_opens busy full) = (q.next, refl)
+    go tick_refused = tt
+    go (tick_again busy) = (q.round, refl)
+    go tick_idle = tt
 
-decide_asks : (q : Reader) (c : Reading) → Asks (decide q c).sends
-decide_asks q (Found x) = tt
-decide_asks q Nothing = cond_both (ltb 0 q.left) (quiet q undecided) (quiet (over q) unsure) ReaderAsks (λ _. tt) (λ _. tt)
+decide_asks : {q : Reader} {c : Reading} {o : Step Reader ReaderDone} → DecideCase q c o → Asks o.sends
+decide_asks (decide_reads x) = tt
+decide_asks (decide_waits more) = tt
+decide_asks (decide_doubts last) = tt
 
 pub reader_asks : (n f : ℕ) (q : Reader) (from k : ℕ) (m : Message) → Asks (reader_on n f q from k m).sends
-reader_asks n f q from k (Take x) = tt
-reader_asks n f q from k (Took e) = tt
-reader_asks n f q from k (Ask r) = tt
-reader_asks n f q from k (Told r x) =
-    cond_both (ltb from n) (told_on n f q from k r x) (refuse q 1) ReaderAsks
-    (λ _. cond_both (awaits_told n f from k r q) (settle_round n f (hear from x q)) (refuse q 3) ReaderAsks
-    (λ _. cond_both (decided n f (hear from x q)) (decide (hear from x q) (pick n f (hear from x q).replies n)) (quiet (hear from x q) heard) ReaderAsks (λ _. decide_asks (hear from x q) (pick n f (hear from x q).replies n)) (λ _. tt))
-    (λ _. tt))
-    (λ _. tt)
+reader_asks n f q from k m = go (reader_case n f q from k m)
+  where
+    go : {m : Message} {o : Step Reader ReaderDone} → ReaderCase n f q from k m o → Asks o.sends
+    go (told_counts r x below due short) = tt
+    go (told_decides r x below due full) = decide_asks (decide_case (hear from x q) (pick n f (hear from x q).replies n))
+    go (reader_passes e) = tt
 
 round_plain : (k left : ℕ) (how : ReaderDone) (q : Reader) → Plain (begin_round k left how q).sends
 round_plain k left how q = asks_plain (begin_round k left how q).sends (round_asks k left how q)
 
 tick_plain : (n f : ℕ) (q : Reader) → Plain (reader_tick n f q).sends
 tick_plain n f q = asks_plain (reader_tick n f q).sends (tick_asks n f q)
-
-decide_plain : (q : Reader) (c : Reading) → Plain (decide q c).sends
-decide_plain q c = asks_plain (decide q c).sends (decide_asks q c)
 
 reader_plain : (n f : ℕ) (q : Reader) (from k : ℕ) (m : Message) → Plain (reader_on n f q from k m).sends
 reader_plain n f q from k m = asks_plain (reader_on n f q from k m).sends (reader_asks n f q from k m)
@@ -213,70 +194,41 @@ warden_fits {s} i d ps log count_of within plain h =
     }
 
 -- what a warden has after a message: what it had, and the note that it took, which the office has
-keeps : (s : System) (i from k : ℕ) (m : Message) → Fits s → (brings m ≡ true → from ≡ office → s.office.desks.had k ≡ true) → (λ (d : Keep Note). Counted d × ((k : ℕ) → d.had k ≡ true → s.office.desks.had k ≡ true)) (warden_keeps (s.warden i) from k m).next
-keeps s i from k (Take x) h known =
-    cond_both (eqb from office) (take_on y x) (refuse y 1) After
-    (λ sent. cond_both (ltb y.edition x.edition) (record { next = x; sends = One office (Took x.edition); outcome = Done taken }) (record { next = y; sends = One office (Took x.edition); outcome = Refused 2 }) After
-    (λ _. cond_both (room k d) (record { next = store k x d; sends = One office (Took x.edition); outcome = Done taken }) (refuse d 6) (λ (o : Step (Keep Note) WardenDone). Had o.next) (λ _. more (eqb-true from office sent)) (λ _. same))
-    (λ _. same))
-    (λ _. same)
+abbrev Had : System → Keep Note → Type 0
+Had s d = Counted d × ((k : ℕ) → d.had k ≡ true → s.office.desks.had k ≡ true)
+
+keeps : (s : System) (i from k : ℕ) (m : Message) → Fits s → (brings m ≡ true → from ≡ office → s.office.desks.had k ≡ true) → Had s (warden_keeps (s.warden i) from k m).next
+keeps s i from k m h = go (keep_case d from k m)
   where
     d : Keep Note
     d = s.warden i
 
-    y : Note
-    y = d.at k
-
-    Had : Keep Note → Type 0
-    Had d = Counted d × ((k : ℕ) → d.had k ≡ true → s.office.desks.had k ≡ true)
-
-    After : Step Note WardenDone → Type 0
-    After o = Had (keep_note d k o).next
-
-    same : Had d
+    same : Had s d
     same = (h.notes i, h.within i)
 
-    more : from ≡ office → Had (store k x d)
-    more sent = (store_counted (h.notes i) k x, λ z e. ⊎_elim (λ (is : z ≡ k). rw is (known refl sent)) (λ apart. h.within i z (rw (ne_eqb z k apart) at e)) (cases_eq z k))
-keeps s i from k (Took e) h known = (h.notes i, h.within i)
-keeps s i from k (Ask r) h known = (h.notes i, h.within i)
-keeps s i from k (Told r x) h known = (h.notes i, h.within i)
+    go : {m : Message} {o : Step (Keep Note) WardenDone} → KeepCase d from k m o → (brings m ≡ true → from ≡ office → s.office.desks.had k ≡ true) → Had s o.next
+    go (keep_takes x own late roomy) known = (store_counted (h.notes i) k x, put_all (λ z b. b ≡ true → s.office.desks.had z ≡ true) k true d.had (λ _. known refl own) (h.within i))
+    go (keep_full x own full) known = same
+    go (keep_had x) known = same
+    go (keep_answers r) known = same
+    go keep_passes known = same
 
 written_had : (s : System) (n k : ℕ) (v : List ℕ) → (l : Letter) → Memᴰ l (office_writes s.office k v).letters → (p : Packet) → Memᴰ p (packets n office l.note l.sends) → (office_writes s.office k v).next.desks.had p.note ≡ true
-written_had s n k v =
-    cond_both (d.busy || leb last_edition d.now.edition) (refuse d 5) (begin_writing d v) (λ (st : Step Desk OfficeDone). Had (keep_writing s.office k st))
-    (λ _ l m. absurd (Memᴰ.not-nil m))
-    (λ _. cond_both (room k s.office.desks) (started s.office k v) (leave s.office (Refused 6)) Had
-    (λ _ l m p at. rw (eq-eqb p.note k (note_of_packet n k (Take (begin_writing d v).next.now) p (rw (Memᴰ.eq_of_singleton m) at at))))
-    (λ _ l m. absurd (Memᴰ.not-nil m)))
+written_had s n k v = go (written s.office k v)
   where
-    d : Desk
-    d = s.office.desks.at k
+    Has : OfficeStep → Type 0
+    Has o = (l : Letter) → Memᴰ l o.letters → (p : Packet) → Memᴰ p (packets n office l.note l.sends) → o.next.desks.had p.note ≡ true
 
-    Had : OfficeStep → Type 0
-    Had o = (l : Letter) → Memᴰ l o.letters → (p : Packet) → Memᴰ p (packets n office l.note l.sends) → o.next.desks.had p.note ≡ true
+    go : {o : OfficeStep} → Written s.office k v o → Has o
+    go (begins_it ready) = λ l m p at. rw (eq-eqb p.note k (note_of_packet n k (Take (begin_writing (s.office.desks.at k) v).next.now) p (rw (Memᴰ.eq_of_singleton m) at at)))
+    go (refuses e) = λ l m. absurd (Memᴰ.not-nil m)
 
-no_letters : (s : System) (n f from k : ℕ) (m : Message) → (office_hears n f s.office from k m).letters ≡ []
-no_letters s n f from k (Take x) = refl
-no_letters s n f from k (Took e) =
-    cond_both (ltb from n) (took_on n f d from e) (refuse d 1) After
-    (λ _. cond_both (awaits_took from e d) (settle n f (acknowledge from d)) (refuse d 4) After
-    (λ _. cond_both (quorum n f (count n (acknowledge from d).acks)) (quiet (close (acknowledge from d)) ended) (quiet (acknowledge from d) counted) After (λ _. refl) (λ _. refl))
-    (λ _. refl))
+-- when something comes to the office, it sends nothing
+pub no_letters : (o : Office) (k : ℕ) (st : Step Desk OfficeDone) → (keep_counting o k st).letters ≡ []
+no_letters o k st =
+    cond_both (counts st.outcome) (record { next = record { desks = store k st.next o.desks; under_way = cond (ends st.outcome) (without k o.under_way) o.under_way }; letters = []; outcome = st.outcome }) (leave o st.outcome) (λ (s : OfficeStep). s.letters ≡ [])
     (λ _. refl)
-  where
-    d : Desk
-    d = s.office.desks.at k
-
-    After : Step Desk OfficeDone → Type 0
-    After st = (keep_counting s.office k st).letters ≡ []
-no_letters s n f from k (Ask r) = refl
-no_letters s n f from k (Told r x) = refl
-
--- each letter of a tick is about a note that is being written
-pub again_had : (d : Keep Desk) (ks : List ℕ) (l : Letter) → Memᴰ l (map (again d) ks) → (k : ℕ) × Memᴰ k ks × (l ≡ again d k)
-again_had d [] l m = absurd (Memᴰ.not-nil m)
-again_had d (k ∷ ks) l m = ⊎_elim (λ is. (k, Memᴰ.head refl, is)) (λ m. let (k', at, is) = again_had d ks l m in (k', Memᴰ.tail at, is)) (Memᴰ.cases_cons m)
+    (λ _. refl)
 
 module _ (n f : ℕ) (liar : ℕ → Bool) where
   reader_fits : (s : System) (j : ℕ) (o : Step Reader ReaderDone) → Plain o.sends → Fits s → Fits (T.by_reader n j o s)
@@ -288,10 +240,10 @@ module _ (n f : ℕ) (liar : ℕ → Bool) where
     where
       sent : (l : Letter) → Memᴰ l (map (again s.office.desks) s.office.under_way) → (p : Packet) → Memᴰ p (packets n office l.note l.sends) → s.office.desks.had p.note ≡ true
       sent l m p at =
-          let (k, listed, is) = again_had s.office.desks s.office.under_way l m in
-          rw (note_of_packet n k (Take (s.office.desks.at k).now) p (rw is at at)) (h.office_fits.busy k ((run_kept n f liar run).order.busy k listed))
+          let (k, listed, is) = Memᴰ.of_map (again s.office.desks) s.office.under_way m in
+          rw (note_of_packet n k (Take (s.office.desks.at k).now) p (rw (← is) at at)) (h.office_fits.busy k ((run_kept n f liar run).order.busy k listed))
   fits_by {s} (office_hear p m to) run h =
-      by_office_fits n (office_hears n f s.office p.from p.note p.message) (T.by_office n p.note (office_hears n f s.office p.from p.note p.message) s).log (hear_goes h.office_fits n f p.from p.note p.message) (λ l at. absurd (Memᴰ.not-nil (rw (no_letters s n f p.from p.note p.message) at at))) h
+      by_office_fits n (office_hears n f s.office p.from p.note p.message) (T.by_office n p.note (office_hears n f s.office p.from p.note p.message) s).log (hear_goes h.office_fits n f p.from p.note p.message) (λ l at. absurd (Memᴰ.not-nil (rw (no_letters s.office p.note (office_on n f (s.office.desks.at p.note) p.from p.message)) at at))) h
   fits_by {s} (warden_hear i p l honest m to) run h =
       let (count_of, within) = keeps s i p.from p.note p.message h (h.posted p m) in
       warden_fits i (warden_keeps (s.warden i) p.from p.note p.message).next (packets n i p.note (warden_keeps (s.warden i) p.from p.note p.message).sends) (T.by_warden n i p.note (warden_keeps (s.warden i) p.from p.note p.message) s).log count_of within (plain_sends n i p.note (warden_keeps (s.warden i) p.from p.note p.message).sends (warden_plain (s.warden i) p.from p.note p.message)) h
@@ -299,17 +251,18 @@ module _ (n f : ℕ) (liar : ℕ → Bool) where
   fits_by {s} (reader_ticks j fair) run h = reader_fits s j (reader_tick n f (s.reader j)) (tick_plain n f (s.reader j)) h
   fits_by {s} (reader_hears j p fair m to) run h = reader_fits s j (reader_on n f (s.reader j) p.from p.note p.message) (reader_plain n f (s.reader j) p.from p.note p.message) h
   fits_by office_restarts run h =
-      record { office_fits = record { counted = record { numbers = h.office_fits.counted.numbers; once = h.office_fits.counted.once; listed = h.office_fits.counted.listed; had = h.office_fits.counted.had; many = h.office_fits.counted.many }; few = h.office_fits.few; busy = h.office_fits.busy }; notes = h.notes; within = h.within; posted = h.posted }
+      let c = h.office_fits.counted in
+      record { office_fits = record { counted = record { numbers = c.numbers; once = c.once; had = c.had; many = c.many }; few = h.office_fits.few; busy = h.office_fits.busy }; notes = h.notes; within = h.within; posted = h.posted }
   fits_by {s} (reader_restarts j first up) run h = record { office_fits = h.office_fits; notes = h.notes; within = h.within; posted = h.posted }
   fits_by {s} (lies p so other) run h = also_fits s.reader (p ∷ []) s.log (λ p' m _ from. other (rw (Memᴰ.eq_of_singleton m) at from)) h
-  fits_by {s} (loses i) run h = warden_fits i (empty none) [] (L.Lost i ∷ s.log) (empty_counted none) (λ k e. absurd (clash e)) (λ p m so. Memᴰ.not-nil m) h
+  fits_by {s} (loses i) run h = warden_fits i (empty none) [] (L.Lost i ∷ s.log) (empty_counted none) (λ k e. cc) (λ p m so. Memᴰ.not-nil m) h
 
   pub run_fits : {s : System} → Run n f liar s → Fits s
   run_fits begin =
       record {
-        office_fits = record { counted = empty_counted empty_desk; few = omega arith; busy = λ k e. absurd (clash e) };
+        office_fits = record { counted = empty_counted empty_desk; few = omega arith; busy = λ k e. cc };
         notes = λ i. empty_counted none;
-        within = λ i k e. absurd (clash e);
+        within = λ i k e. cc;
         posted = λ p m. absurd (Memᴰ.not-nil m);
       }
   run_fits (then before m) = fits_by m before (run_fits before)
@@ -323,26 +276,14 @@ roomy s i k h has =
     (cases_Bool ((s.warden i).had k))
 
 pub never_full : NeverFull
-never_full n f liar s run i p m = go p.from p.note p.message (h.posted p m)
+never_full n f liar s run i p m = go (keep_case (s.warden i) p.from p.note p.message) (h.posted p m)
   where
     h : Fits s
     h = run_fits n f liar run
 
-    go : (from k : ℕ) (m : Message) → (brings m ≡ true → from ≡ office → s.office.desks.had k ≡ true) → (warden_keeps (s.warden i) from k m).outcome ≡ Refused 6 → ⊥
-    go from k (Take x) known =
-        cond_both (eqb from office) (take_on y x) (refuse y 1) After
-        (λ sent. cond_both (ltb y.edition x.edition) (record { next = x; sends = One office (Took x.edition); outcome = Done taken }) (record { next = y; sends = One office (Took x.edition); outcome = Refused 2 }) After
-        (λ _. cond_both (room k (s.warden i)) (record { next = store k x (s.warden i); sends = One office (Took x.edition); outcome = Done taken }) (refuse (s.warden i) 6) (λ (o : Step (Keep Note) WardenDone). o.outcome ≡ Refused 6 → ⊥)
-        (λ _ e. let z : ◌≡◌ {A = ℕ} 0 1 = cc in omega arith)
-        (λ full _. clash (sym full ∙ roomy s i k h (known refl (eqb-true from office sent)))))
-        (λ _ e. let z : ◌≡◌ {A = ℕ} 2 6 = cc in omega arith))
-        (λ _ e. let z : ◌≡◌ {A = ℕ} 1 6 = cc in omega arith)
-      where
-        y : Note
-        y = (s.warden i).at k
-
-        After : Step Note WardenDone → Type 0
-        After o = (keep_note (s.warden i) k o).outcome ≡ Refused 6 → ⊥
-    go from k (Took e) known = λ e. let z : ◌≡◌ {A = ℕ} 1 6 = cc in omega arith
-    go from k (Ask r) known = λ e. let z : ◌≡◌ {A = ℕ} 0 1 = cc in omega arith
-    go from k (Told r x) known = λ e. let z : ◌≡◌ {A = ℕ} 1 6 = cc in omega arith
+    go : {m : Message} {o : Step (Keep Note) WardenDone} → KeepCase (s.warden i) p.from p.note m o → (brings m ≡ true → p.from ≡ office → s.office.desks.had p.note ≡ true) → o.outcome ≡ Refused 6 → ⊥
+    go (keep_takes x own late roomy) known e = cc
+    go (keep_full x own full) known e = cc (roomy s i p.note h (known refl own))
+    go (keep_had x) known e = cc
+    go (keep_answers r) known e = cc
+    go keep_passes known e = cc

@@ -23,6 +23,10 @@ within (suc n) p q h =
     let here = h n (omega arith) in
     grind arith
 
+-- who passes p passes p or q
+pub either : (n : ℕ) (p q : ℕ → Bool) → count n p ≤ count n (λ i. p i || q i)
+either n p q = within n p (λ i. p i || q i) (λ i _ e. rw e)
+
 -- who passes p and q passes r or s
 pub meet : (n : ℕ) (p q r s : ℕ → Bool) → ((i : ℕ) → i < n → p i ≡ true → q i ≡ true → (r i ≡ true) ⊎ (s i ≡ true)) → count n p + count n q ≤ n + (count n r + count n s)
 unfolding count

@@ -2,7 +2,6 @@
 -- Assumes nothing.
 use Rattle.std.proofs.Common.{◌≡◌, ℕ, ◌≤◌, Bool, true, ◌∷◌, refl, arith}
 use mathlib.Core.List.{Memᴰ}
-use Rattle.std.proofs.lemmas.Bool.{both_ways}
 use Rattle.register.specs.Note.{Note}
 use Rattle.register.specs.Model.{Office, note, begun, Warden, stored, emptied, Round, opened, offering, hearing, World, new_round, Step, begins, stores, hears, ends, opens, tells, listens, loses}
 use Rattle.register.proofs.Put.{put_all}
@@ -55,7 +54,7 @@ module _ {n f : ℕ} {liar : ℕ → Bool} where
   step_grows_round (stores i e begun late) r live = round_still live
   step_grows_round (hears i l writing taken) r live = round_still live
   step_grows_round (ends writing enough) r live = round_still live
-  step_grows_round {w} (opens q shut) r live = one_round w q (opened w.office w.warden) (λ on. absurd (both_ways (w.round q).live shut on)) r live
+  step_grows_round {w} (opens q shut) r live = one_round w q (opened w.office w.warden) (λ on. cc) r live
   step_grows_round {w} (tells q i honest on) r live = one_round w q (offering i (w.warden i).store (w.round q)) (offering_grows i (w.warden i).store (w.round q)) r live
   step_grows_round {w} (listens q i x l on first from) r live = one_round w q (hearing i x (w.round q)) (hearing_grows i x (w.round q)) r live
   step_grows_round (loses i) r live = record { live = live; since = refl; offered = λ i x m. m; heard = λ i e. e }

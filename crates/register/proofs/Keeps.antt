@@ -3,7 +3,6 @@
 use Rattle.std.proofs.Common.{◌≡◌, ℕ, ◌+◌, ◌≤◌, Bool, true, false, ◌||◌, ltb, leb, ◌⊎◌, List, [], ◌∷◌, sym, refl, ◌∙◌, inl, inr, ⊎_elim, arith}
 use mathlib.Core.List.Memᴰ
 use mathlib.Core.List.{Memᴰ}
-use borrow.Author.Tests.{clash}
 use Rattle.std.proofs.lemmas.Bool.{ltb-false}
 use Rattle.register.specs.Count.{count, put}
 use Rattle.register.specs.Note.{Note}
@@ -86,7 +85,7 @@ module _ {n f : ℕ} {liar : ℕ → Bool} where
           high = λ i. omega arith;
           ahead = λ i e. omega arith;
           said = λ i x m. absurd (Memᴰ.not-nil m);
-          told = λ i e. absurd (clash e);
+          told = λ i e. cc;
         };
       }
 
@@ -108,7 +107,7 @@ module _ {n f : ℕ} {liar : ℕ → Bool} where
         high = λ i. omega arith;
         ahead = λ i e. ltb-false (d i).store.edition (d i).high e;
         said = λ i x m. absurd (Memᴰ.not-nil m);
-        told = λ i e. absurd (clash e);
+        told = λ i e. cc;
       }
 
   offering_kept : {o : Office} {d : ℕ → Warden} {r : Round} (i : ℕ) → Written o (d i).store → RoundKept n f liar o d r → RoundKept n f liar o d (offering i (d i).store r)
@@ -161,7 +160,7 @@ module _ {n f : ℕ} {liar : ℕ → Bool} where
 
   begun_kept : {o : Office} {d : ℕ → Warden} (v : List ℕ) → OfficeKept n f liar o d → OfficeKept n f liar (begun v o) d
   begun_kept {o} {d} v k =
-      record { blank = grind (arith, k.blank); order = omega (arith, k.order); taken = λ i e. absurd (clash e); quorum = k.quorum }
+      record { blank = grind (arith, k.blank); order = omega (arith, k.order); taken = λ i e. cc; quorum = k.quorum }
 
   -- by each step
   kept_by : {w v : World} → Step n f liar w v → Grows w.office v.office w.warden v.warden → Kept n f liar w → Kept n f liar v

@@ -9,7 +9,7 @@ use Rattle.register.specs.Rule.{answers}
 use Rattle.register.specs.Model.{Writing, note, begun, acked, closed, stored, Round, offering, hearing, World, new_office, new_warden, new_round, Step, begins, stores, hears, ends, opens, tells, listens, loses}
 use Rattle.register.specs.Progress.{missing, Moving, fair, Way, here, next, Finishes}
 use Rattle.register.proofs.Counting.{within, cover, fewer, nobody, beyond}
-use Rattle.register.proofs.Put.{put_same}
+use Rattle.register.proofs.Put.{put_same, put_stay}
 use Rattle.register.proofs.Grows.{step_grows_round}
 use Rattle.register.proofs.Keeps.{Kept, step_kept, reach_kept}
 
@@ -22,9 +22,6 @@ module _ (n : ℕ) (liar : ℕ → Bool) where
   pub stay : (known known' : ℕ → Bool) → ((i : ℕ) → known i ≡ true → known' i ≡ true) → missing n liar known' ≤ missing n liar known
   stay known known' h = within n (λ i. not (liar i || known' i)) (λ i. not (liar i || known i)) (λ i _ e. let up = h i in grind arith)
 
-  pub put_stay : (k : ℕ) (known : ℕ → Bool) → (i : ℕ) → known i ≡ true → put k true known i ≡ true
-  put_stay k known i e = grind arith
-
   pub fall : (known : ℕ → Bool) (k : ℕ) → k < n → liar k ≡ false → known k ≡ false → missing n liar (put k true known) < missing n liar known
   fall known k l fair new = fewer n (λ i. not (liar i || put k true known i)) (λ i. not (liar i || known i)) (λ i _ e. let up = put_stay k known i in grind arith) k l (grind arith) (grind arith)
 
@@ -32,7 +29,7 @@ module _ {n f : ℕ} {liar : ℕ → Bool} where
   acks_stay : {w v : World} → Step n f liar w v → v.office.edition ≡ w.office.edition → missing n liar v.office.acks ≤ missing n liar w.office.acks
   acks_stay (begins v done) same = absurd (omega arith)
   acks_stay (stores i e begun late) same = omega arith
-  acks_stay {w} (hears i l writing taken) same = stay n liar w.office.acks (put i true w.office.acks) (put_stay n liar i w.office.acks)
+  acks_stay {w} (hears i l writing taken) same = stay n liar w.office.acks (put i true w.office.acks) (put_stay i w.office.acks)
   acks_stay (ends writing enough) same = omega arith
   acks_stay (opens r shut) same = omega arith
   acks_stay (tells r i honest live) same = omega arith
@@ -62,6 +59,46 @@ pub who : (n : ℕ) (liar known : ℕ → Bool) → 0 < missing n liar known →
 who n liar known some =
     let (i, l, out, _) = beyond n (λ i. not (liar i || known i)) (λ i. false) (omega (arith, nobody n)) in
     (i, l, grind arith, grind arith)
+
+-- in two steps an honest warden says what it has in the round r, and is heard
+pub record Telling (n f : ℕ) (liar : ℕ → Bool) (w : World) (r i : ℕ) : Type 0 where
+  pub said : World
+  pub heard : World
+  pub first : Step n f liar w said
+  pub second : Step n f liar said heard
+  pub fair_first : fair first ≡ true
+  pub fair_second : fair second ≡ true
+  pub office : heard.office ≡ w.office
+  pub warden : heard.warden ≡ w.warden
+  pub round : heard.round r ≡ hearing i (w.warden i).store (offering i (w.warden i).store (w.round r))
+
+pub telling : (n f : ℕ) (liar : ℕ → Bool) (w : World) (r i : ℕ) → i < n → liar i ≡ false → (w.round r).live ≡ true → (w.round r).replies.heard i ≡ false → Telling n f liar w r i
+telling n f liar w r i l honest live new =
+    record { said = t; heard = u; first = first; second = second; fair_first = refl; fair_second = rw honest; office = refl; warden = refl; round = put_same r (hearing i x (t.round r)) t.round ∙ ap (hearing i x) said_is }
+  where
+    x : Note
+    x = (w.warden i).store
+
+    said : Round
+    said = offering i x (w.round r)
+
+    t : World
+    t = new_round r said w
+
+    u : World
+    u = new_round r (hearing i x (t.round r)) t
+
+    said_is : t.round r ≡ said
+    said_is = put_same r said w.round
+
+    offered : Memᴰ x (said.offered i)
+    offered = rw (put_same i (x ∷ (w.round r).offered i) (w.round r).offered) (Memᴰ.head refl)
+
+    first : Step n f liar w t
+    first = tells r i honest live
+
+    second : Step n f liar t u
+    second = listens r i x l (rw said_is live) (rw said_is new) (inr (rw said_is offered))
 
 -- a world with less to do, from which the goal comes back
 abbrev pub Nearer : {A : Type 0} (Inv Goal : A → Type 0) (μ : A → ℕ) → A → Type 0
@@ -118,39 +155,13 @@ module _ (n f : ℕ) (liar : ℕ → Bool) where
 
     -- who is missing says what it has, and is heard
     by_telling : (w : World) (i : ℕ) → i < n → liar i ≡ false → (w.round r).replies.heard i ≡ false → Live w → Nearer Live Answered unheard w
-    by_telling w i l honest new live = (
-      u,
-      rw heard_is live,
-      rw heard_is (fall n liar (w.round r).replies.heard i l honest new),
-      λ (v, way, since, lapsed, enough). (v, next first refl (next second (rw honest) way), since ∙ ap (λ (c : Round). c.since) heard_is, lapsed ∙ ap (λ (c : Round). c.lapsed) heard_is, enough),
-    )
-      where
-        x : Note
-        x = (w.warden i).store
-
-        said : Round
-        said = offering i x (w.round r)
-
-        t : World
-        t = new_round r said w
-
-        u : World
-        u = new_round r (hearing i x (t.round r)) t
-
-        said_is : t.round r ≡ said
-        said_is = put_same r said w.round
-
-        heard_is : u.round r ≡ hearing i x said
-        heard_is = put_same r (hearing i x (t.round r)) t.round ∙ ap (hearing i x) said_is
-
-        first : Step n f liar w t
-        first = tells r i honest live
-
-        offered : Memᴰ x (said.offered i)
-        offered = rw (put_same i (x ∷ (w.round r).offered i) (w.round r).offered) (Memᴰ.head refl)
-
-        second : Step n f liar t u
-        second = listens r i x l (rw said_is live) (rw said_is new) (inr (rw said_is offered))
+    by_telling w i l honest new live =
+        let t = telling n f liar w r i l honest live new in (
+          t.heard,
+          rw t.round live,
+          rw t.round (fall n liar (w.round r).replies.heard i l honest new),
+          λ (v, way, since, lapsed, enough). (v, next t.first t.fair_first (next t.second t.fair_second way), since ∙ ap (λ (c : Round). c.since) t.round, lapsed ∙ ap (λ (c : Round). c.lapsed) t.round, enough),
+        )
 
     round_further : count n liar ≤ f → (w : World) → Live w → Answered w ⊎ Nearer Live Answered unheard w
     round_further few w live = ⊎_elim (λ more. inr (by (who n liar (w.round r).replies.heard more))) (λ none. inl (w, here, refl, refl, omega (arith, enough n liar (w.round r).replies.heard))) (cases_lt 0 (unheard w))

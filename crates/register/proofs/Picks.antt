@@ -43,11 +43,11 @@ module _ (n f : ℕ) (p : Replies) where
   before_or_here : (m : ℕ) (x : Note) (r : Reading) (t : Bool) → or_else r (cond t (Found (p.told m)) Nothing) ≡ Found x → (r ≡ Found x) ⊎ ((t ≡ true) × (p.told m ≡ x))
   before_or_here m x (Found y) t e = inl e
   before_or_here m x Nothing true e = inr (refl, cc)
-  before_or_here m x Nothing false e = let z : ◌≡◌ {A = ℕ} 0 1 = cc in absurd (omega arith)
+  before_or_here m x Nothing false e = cc
 
   pub pick_found : (m : ℕ) (x : Note) → pick n f p m ≡ Found x → IsRead n f p x
   unfolding pick
-  pick_found zero x e = let z : ◌≡◌ {A = ℕ} 0 1 = cc in absurd (omega arith)
+  pick_found zero x e = cc
   pick_found (suc m) x e =
       ⊎_elim
       (pick_found m x)
@@ -55,8 +55,8 @@ module _ (n f : ℕ) (p : Replies) where
       (before_or_here m x (pick n f p m) (p.heard m && readable n f p (p.told m)) e)
 
   neither : (m : ℕ) (r : Reading) (t : Bool) → or_else r (cond t (Found (p.told m)) Nothing) ≡ Nothing → (r ≡ Nothing) × (t ≡ false)
-  neither m (Found y) t e = let z : ◌≡◌ {A = ℕ} 0 1 = cc in absurd (omega arith)
-  neither m Nothing true e = let z : ◌≡◌ {A = ℕ} 0 1 = cc in absurd (omega arith)
+  neither m (Found y) t e = cc
+  neither m Nothing true e = cc
   neither m Nothing false e = (refl, refl)
 
   none_below : (m : ℕ) → pick n f p m ≡ Nothing → (i : ℕ) → i < m → p.heard i ≡ true → readable n f p (p.told i) ≡ false

@@ -7,7 +7,7 @@ use Rattle.register.specs.Note.{Note, none, same}
 use Rattle.register.specs.Rule.{answers, IsRead}
 use Rattle.register.specs.Model.{Office, note, Warden, Round}
 use Rattle.register.specs.Promise.{faults, Settled, Heard, Stands, Stand, Read}
-use Rattle.register.proofs.Counting.{within, beyond, overlap}
+use Rattle.register.proofs.Counting.{within, either, beyond, overlap}
 use Rattle.register.proofs.Notes.{note_path, same_true, true_same}
 use Rattle.register.proofs.Keeps.{Written, Said, OfficeKept, RoundKept, reach_kept}
 
@@ -96,7 +96,7 @@ stand n f liar w reach r =
 pub reads : Read
 reads n f liar least w reach r full =
     let s = stand n f liar w reach r in
-    let few : count n liar ≤ f = omega (arith, full.few, within n liar (λ i. liar i || (w.round r).lapsed i) (λ i _ e. rw e)) in
+    let few : count n liar ≤ f = omega (arith, full.few, either n liar (w.round r).lapsed) in
     let heard : Heard n f liar (w.round r) = omega (arith, full.few, full.enough) in
     record {
       written = s.written few;
