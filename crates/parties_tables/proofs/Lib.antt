@@ -1,3 +1,4 @@
 mod Along
+mod Hearing
 mod Lists
 mod Tables

@@ -148,10 +148,11 @@ impl Office {
     fn letters(&self, heap: Global) -> Result<Vec<Letter>, AllocError>
         ensures { IfOk result (λ letters. map letter_of letters.items ≡ (office_ticks (office_of self.now)).letters) }
     {
-        self.under_way
-            .iter()
-            .map(|number| self.again(*number))
-            .collect(heap)
+        let mut letters = Vec::new(heap);
+        for number in &self.under_way {
+            letters.push(self.again(*number))?;
+        }
+        Ok(letters)
     }
 
     fn again(&self, number: NoteId) -> Letter

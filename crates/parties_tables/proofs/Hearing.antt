@@ -1,0 +1,45 @@
+-- What the office has once it has counted a warden.
+-- Assumes nothing.
+use Rattle.std.proofs.Common.{◌≡◌, ℕ, true, cond, refl, sym, ap, ◌∙◌, subst}
+use Rattle.std.proofs.lemmas.Bool.{false≢true}
+use Rattle.protocol.specs.Message.{Message, Sends, Nothing}
+use Rattle.protocol.specs.Office.{Desk, OfficeDone, office_on}
+use Rattle.protocol.specs.Step.{Step, Outcome}
+use Rattle.protocol.proofs.PartyCases.{OfficeCase, took_counts, took_ends, office_passes, office_case}
+use Rattle.protocol_tables.specs.Keep.{store}
+use Rattle.protocol_tables.specs.Office.{Office, counts, ends, without, office_hears}
+use Rattle.parties.specs.Desks.{desk_of}
+use Rattle.parties.specs.declared.desk.Desk as code
+use Rattle.parties.specs.Views as steps
+use Rattle.parties_tables.specs.Offices.{letter_about, Did}
+
+module _ (n f from k : ℕ) (o : Office) where
+  -- the desk is busy at which somebody is counted, and nothing is sent
+  busy_at : (m : Message) (s : Step Desk OfficeDone) → OfficeCase n f (o.desks.at k) from m s → counts s.outcome ≡ true → (o.desks.at k).busy ≡ true
+  busy_at _ _ (took_counts _ busy _) h = busy
+  busy_at _ _ (took_ends _ busy _) h = busy
+  busy_at _ _ (office_passes e) h = absurd (false≢true h)
+
+  silent : (m : Message) (s : Step Desk OfficeDone) → OfficeCase n f (o.desks.at k) from m s → s.sends ≡ Nothing
+  silent _ _ (took_counts _ _ _) = refl
+  silent _ _ (took_ends _ _ _) = refl
+  silent _ _ (office_passes e) = refl
+
+  -- what was done at the desk was done at the one that it has
+  pub at_desk : (m : Message) (d : code.Desk) {next : Desk} {sends : Sends} {outcome : Outcome OfficeDone} → desk_of d ≡ o.desks.at k → steps.Did next sends outcome (office_on n f (desk_of d) from m) → steps.Did next sends outcome (office_on n f (o.desks.at k) from m)
+  at_desk m d {next} {sends} {outcome} is did = subst (λ (e : Desk). steps.Did next sends outcome (office_on n f e from m)) is did
+
+  module _ (m : Message) (next : Desk) (sends : Sends) (outcome : Outcome OfficeDone) (did : steps.Did next sends outcome (office_on n f (o.desks.at k) from m)) (counted : counts outcome ≡ true) where
+    so : counts (office_on n f (o.desks.at k) from m).outcome ≡ true
+    so = sym (ap counts did.outcome_is) ∙ counted
+
+    pub busy : (o.desks.at k).busy ≡ true
+    busy = busy_at m _ (office_case n f (o.desks.at k) from m) so
+
+    pub heard : (p : Office) → p ≡ record { desks = store k next o.desks; under_way = cond (ends outcome) (without k o.under_way) o.under_way } → Did p (letter_about k sends) outcome (office_hears n f o from k m)
+    heard p is =
+        rw so record {
+          next_is = is ∙ λ i. record { desks = store k (did.next_is i) o.desks; under_way = cond (ends (did.outcome_is i)) (without k o.under_way) o.under_way };
+          letters_is = ap (letter_about k) (did.sends_is ∙ silent m _ (office_case n f (o.desks.at k) from m));
+          outcome_is = did.outcome_is;
+        }
