@@ -3,8 +3,9 @@ use notes::ids::{Edition, NoteId, OFFICE, PartyId, RoundNumber};
 use notes::note::Note;
 use notes::quorum::Quorum;
 use notes::value::Value;
-use parties::message::{Message, Sends};
-use parties::step::{OfficeOutcome, OfficeStep, WardenOutcome, WardenStep};
+use parties::message::{Incoming, Message, Sends};
+use parties::refusal::Refusal;
+use parties::step::{OfficeDone, OfficeOutcome, OfficeStep, WardenDone, WardenStep};
 use parties_tables::office::{Letter, Office};
 use parties_tables::warden::Warden;
 use std::process::Abort;
@@ -22,31 +23,17 @@ fn note(edition: u64, byte: u8) -> Result<Note, Fail> {
 
 // A message comes from the office; there is memory.
 fn take(warden: &mut Warden, number: u32, note: Note) -> Result<WardenStep, Fail> {
-    match warden.on(PartyId(OFFICE), NoteId(number), Message::Take(note)) {
-        Ok(step) => Ok(step),
-        Err(_) => Err(Fail::new("no memory")),
-    }
+    let incoming = Incoming {
+        from: OFFICE,
+        note: NoteId(number),
+        message: Message::Take(note),
+    };
+    warden.on(incoming).map_err(|_| Fail::new("no memory"))
 }
 
-fn warden_number(outcome: WardenOutcome) -> u8 {
-    match outcome {
-        WardenOutcome::Refused(refusal) => refusal.number(),
-        _ => 0,
-    }
-}
-
-fn office_number(outcome: OfficeOutcome) -> u8 {
-    match outcome {
-        OfficeOutcome::Refused(refusal) => refusal.number(),
-        _ => 0,
-    }
-}
-
-fn is_silent(sends: Sends) -> bool {
-    match sends {
-        Sends::Nothing => true,
-        _ => false,
-    }
+// The number of the refusal, if it is one.
+fn refused<D: Copy>(outcome: Result<D, Refusal>) -> Option<u8> {
+    outcome.err().map(u8::from)
 }
 
 #[test]
@@ -54,18 +41,13 @@ fn a_warden_has_notes_apart(rt: HostRuntime) -> Result<(), Fail> {
     let mut warden = Warden::new(rt.alloc());
     let _ = take(&mut warden, 0, note(1, 10)?)?;
     let _ = take(&mut warden, u32::MAX, note(7, 20)?)?;
-    assert!(rt; warden.note(NoteId(0)).edition.is(Edition(1)));
-    assert!(rt; warden.note(NoteId(u32::MAX)).edition.is(Edition(7)));
-    assert!(rt; warden.note(NoteId(1)).edition.is(Edition(0)));
+    assert!(rt; warden.note(NoteId(0)).edition == Edition(1));
+    assert!(rt; warden.note(NoteId(u32::MAX)).edition == Edition(7));
+    assert!(rt; warden.note(NoteId(1)).edition == Edition(0));
     // What one note has is nothing to another.
-    assert!(rt; warden_number(take(&mut warden, 0, note(1, 11)?)?.outcome) == 2);
-    assert!(rt;
-        matches!(
-            take(&mut warden, 0, note(2, 12)?)?.outcome,
-            WardenOutcome::Taken
-        )
-    );
-    assert!(rt; warden.note(NoteId(u32::MAX)).edition.is(Edition(7)));
+    assert!(rt; refused(take(&mut warden, 0, note(1, 11)?)?.outcome) == Some(2));
+    assert!(rt; take(&mut warden, 0, note(2, 12)?)?.outcome == Ok(WardenDone::Taken));
+    assert!(rt; warden.note(NoteId(u32::MAX)).edition == Edition(7));
     assert!(rt; warden.notes.count() == 2);
     Ok(())
 }
@@ -73,12 +55,17 @@ fn a_warden_has_notes_apart(rt: HostRuntime) -> Result<(), Fail> {
 #[test]
 fn a_warden_tells_nothing_of_what_it_does_not_have(rt: HostRuntime) -> Result<(), Fail> {
     let mut warden = Warden::new(rt.alloc());
-    let Ok(step) = warden.on(PartyId(70), NoteId(5), Message::Ask(RoundNumber(3))) else {
+    let incoming = Incoming {
+        from: PartyId(70),
+        note: NoteId(5),
+        message: Message::Ask(RoundNumber(3)),
+    };
+    let Ok(step) = warden.on(incoming) else {
         return Err(Fail::new("no memory"));
     };
-    assert!(rt; matches!(step.outcome, WardenOutcome::Answered));
+    assert!(rt; step.outcome == Ok(WardenDone::Answered));
     // It has no more notes for it, and a take of edition 0 brings none.
-    assert!(rt; warden_number(take(&mut warden, 5, note(0, 1)?)?.outcome) == 2);
+    assert!(rt; refused(take(&mut warden, 5, note(0, 1)?)?.outcome) == Some(2));
     assert!(rt; warden.notes.count() == 0);
     Ok(())
 }
@@ -87,12 +74,7 @@ fn a_warden_tells_nothing_of_what_it_does_not_have(rt: HostRuntime) -> Result<()
 fn full_warden(rt: &(impl Abort + AllocGlobal)) -> Result<Warden, Fail> {
     let mut warden = Warden::new(rt.alloc());
     for i in 0..4096u32 {
-        assert!(rt;
-            matches!(
-                take(&mut warden, 2 * i, note(1, 1)?)?.outcome,
-                WardenOutcome::Taken
-            )
-        );
+        assert!(rt; take(&mut warden, 2 * i, note(1, 1)?)?.outcome == Ok(WardenDone::Taken));
     }
     Ok(warden)
 }
@@ -101,18 +83,13 @@ fn full_warden(rt: &(impl Abort + AllocGlobal)) -> Result<Warden, Fail> {
 fn the_4097th_note_is_turned_away(rt: HostRuntime) -> Result<(), Fail> {
     let mut warden = full_warden(&rt)?;
     let step = take(&mut warden, 9, note(1, 1)?)?;
-    assert!(rt; warden_number(step.outcome) == 6 && is_silent(step.sends));
-    assert!(rt; warden.note(NoteId(9)).edition.is(Edition(0)));
+    assert!(rt; refused(step.outcome) == Some(6) && step.sends == Sends::Nothing);
+    assert!(rt; warden.note(NoteId(9)).edition == Edition(0));
     // Edition 0 is never above: that number is the lower one, and took is said.
     let step = take(&mut warden, 9, note(0, 1)?)?;
-    assert!(rt; warden_number(step.outcome) == 2 && !is_silent(step.sends));
+    assert!(rt; refused(step.outcome) == Some(2) && step.sends != Sends::Nothing);
     // A note that is had is still taken.
-    assert!(rt;
-        matches!(
-            take(&mut warden, 8190, note(2, 1)?)?.outcome,
-            WardenOutcome::Taken
-        )
-    );
+    assert!(rt; take(&mut warden, 8190, note(2, 1)?)?.outcome == Ok(WardenDone::Taken));
     assert!(rt; warden.notes.count() == 4096);
     Ok(())
 }
@@ -128,57 +105,53 @@ fn write(office: &mut Office, number: u32, byte: u8) -> Result<OfficeStep, Fail>
     let Some(value) = Value::new(&[byte]) else {
         return Err(Fail::new("too long"));
     };
-    match office.write(NoteId(number), value) {
-        Ok(step) => Ok(step),
-        Err(_) => Err(Fail::new("no memory")),
-    }
+    office
+        .write(NoteId(number), value)
+        .map_err(|_| Fail::new("no memory"))
 }
 
 fn letters(office: &Office, rt: &HostRuntime) -> Result<Vec<Letter>, Fail> {
-    match office.tick(rt.alloc()) {
-        Ok(letters) => Ok(letters),
-        Err(_) => Err(Fail::new("no memory")),
-    }
+    office.tick(rt.alloc()).map_err(|_| Fail::new("no memory"))
 }
 
 fn took(office: &mut Office, warden: u32, number: u32, edition: u64) -> OfficeOutcome {
     office
-        .on(
-            PartyId(warden),
-            NoteId(number),
-            Message::Took(Edition(edition)),
-        )
+        .on(Incoming {
+            from: PartyId(warden),
+            note: NoteId(number),
+            message: Message::Took(Edition(edition)),
+        })
         .outcome
 }
 
 #[test]
 fn several_notes_are_written_at_once(rt: HostRuntime) -> Result<(), Fail> {
     let mut office = office(&rt)?;
-    assert!(rt; matches!(write(&mut office, 9, 1)?.outcome, OfficeOutcome::Begun));
-    assert!(rt; matches!(write(&mut office, 4, 2)?.outcome, OfficeOutcome::Begun));
-    assert!(rt; office_number(write(&mut office, 9, 3)?.outcome) == 5);
+    assert!(rt; write(&mut office, 9, 1)?.outcome == Ok(OfficeDone::Begun));
+    assert!(rt; write(&mut office, 4, 2)?.outcome == Ok(OfficeDone::Begun));
+    assert!(rt; refused(write(&mut office, 9, 3)?.outcome) == Some(5));
     // In the order in which they began.
     let both = letters(&office, &rt)?;
     assert!(rt; both.len() == 2);
-    assert!(rt; both[0].note.is(NoteId(9)) && both[1].note.is(NoteId(4)));
+    assert!(rt; both[0].note == NoteId(9) && both[1].note == NoteId(4));
     // A took of one note counts for that note alone.
     for i in 0..3 {
-        assert!(rt; matches!(took(&mut office, i, 9, 1), OfficeOutcome::Counted));
+        assert!(rt; took(&mut office, i, 9, 1) == Ok(OfficeDone::Counted));
     }
-    assert!(rt; matches!(took(&mut office, 3, 4, 1), OfficeOutcome::Counted));
-    assert!(rt; matches!(took(&mut office, 3, 9, 1), OfficeOutcome::Ended));
-    assert!(rt; office_number(took(&mut office, 4, 9, 1)) == 4);
+    assert!(rt; took(&mut office, 3, 4, 1) == Ok(OfficeDone::Counted));
+    assert!(rt; took(&mut office, 3, 9, 1) == Ok(OfficeDone::Ended));
+    assert!(rt; refused(took(&mut office, 4, 9, 1)) == Some(4));
     let one = letters(&office, &rt)?;
     assert!(rt; one.len() == 1);
-    assert!(rt; one[0].note.is(NoteId(4)));
+    assert!(rt; one[0].note == NoteId(4));
     Ok(())
 }
 
 #[test]
 fn a_note_that_was_never_written_awaits_nothing(rt: HostRuntime) -> Result<(), Fail> {
     let mut office = office(&rt)?;
-    assert!(rt; office_number(took(&mut office, 0, 7, 0)) == 4);
-    assert!(rt; office_number(took(&mut office, 5, 7, 0)) == 1);
+    assert!(rt; refused(took(&mut office, 0, 7, 0)) == Some(4));
+    assert!(rt; refused(took(&mut office, 5, 7, 0)) == Some(1));
     assert!(rt; letters(&office, &rt)?.len() == 0);
     Ok(())
 }
@@ -187,24 +160,14 @@ fn a_note_that_was_never_written_awaits_nothing(rt: HostRuntime) -> Result<(), F
 fn the_office_has_4096_notes(rt: HostRuntime) -> Result<(), Fail> {
     let mut office = office(&rt)?;
     for i in 0..4096u32 {
-        assert!(rt;
-            matches!(
-                write(&mut office, u32::MAX - i, 1)?.outcome,
-                OfficeOutcome::Begun
-            )
-        );
+        assert!(rt; write(&mut office, u32::MAX - i, 1)?.outcome == Ok(OfficeDone::Begun));
     }
     let step = write(&mut office, 0, 1)?;
-    assert!(rt; office_number(step.outcome) == 6 && is_silent(step.sends));
-    assert!(rt; office_number(write(&mut office, u32::MAX, 1)?.outcome) == 5);
+    assert!(rt; refused(step.outcome) == Some(6) && step.sends == Sends::Nothing);
+    assert!(rt; refused(write(&mut office, u32::MAX, 1)?.outcome) == Some(5));
     for i in 0..4 {
         let _ = took(&mut office, i, u32::MAX, 1);
     }
-    assert!(rt;
-        matches!(
-            write(&mut office, u32::MAX, 2)?.outcome,
-            OfficeOutcome::Begun
-        )
-    );
+    assert!(rt; write(&mut office, u32::MAX, 2)?.outcome == Ok(OfficeDone::Begun));
     Ok(())
 }
