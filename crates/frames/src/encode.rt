@@ -31,7 +31,7 @@ fn put_head(out: &mut Vec<u8>, kind: Kind, note: NoteId, number: u64)
     requires { vec_len out.old + 13 ≤ vec_capacity out.old }
     ensures { Added out.old out.new (number_of kind ∷ (be 4 note.0 ++ be 8 number)) }
 {
-    put(out, &[kind.number()]);
+    put(out, &[u8::from(kind)]);
     put(out, &note.0.to_be_bytes());
     put(out, &number.to_be_bytes());
 }
