@@ -49,10 +49,12 @@ fn split_head(bytes: &[u8]) -> Option<Head<'_>>
     let Parcel { kind, body } = split_kind(bytes)?;
     let (note, body) = body.split_first_chunk::<4>()?;
     let (number, rest) = body.split_first_chunk::<8>()?;
+    let note = NoteId(u32::from_be_bytes(*note));
+    let number = u64::from_be_bytes(*number);
     Some(Head {
         kind,
-        note: NoteId(u32::from_be_bytes(*note)),
-        number: u64::from_be_bytes(*number),
+        note,
+        number,
         rest,
     })
 }

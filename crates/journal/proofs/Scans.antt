@@ -1,11 +1,11 @@
 -- One record more at the front of bytes.
 -- Assumes nothing.
-use Rattle.std.proofs.Common.{◌≡◌, ℕ, ◌-◌, List, [], ◌∷◌, ◌++◌, length, drop, sym, refl, ap, ◌∙◌, append_assoc, append-nil, arith, length-append}
+use Rattle.std.proofs.Common.{◌≡◌, ℕ, ◌-◌, List, [], ◌∷◌, ◌++◌, length, drop, sym, refl, ap, ◌∙◌, arith, length-append}
 use Rattle.std.proofs.lemmas.List.{drop_at}
 use Rattle.frames.specs.Format.{Frame, encode}
 use Rattle.frames.specs.Journal.{encode_all, IsRecord}
 use Rattle.frames.specs.declared.role.Role.{Role}
-use Rattle.frames.proofs.Records.{encode_all-++, records-++}
+use Rattle.frames.proofs.Records.{records_push, bytes_push}
 use Rattle.journal.specs.Replays.{none, more, Scanned}
 
 module _ {X : Type 0} (R : X → Frame → X → Type 0) (role : Role) (bs : List ℕ) where
@@ -17,17 +17,14 @@ module _ {X : Type 0} (R : X → Frame → X → Type 0) (role : Role) (bs : Lis
       record {
         frames = s.frames ++ (f ∷ []);
         replayed = more s.replayed f step;
-        records = records-++ role s.frames (f ∷ []) s.records (is, tt);
+        records = records_push role s.frames f s.records is;
         size = long;
         front = whole ∙ ap (λ (r : List ℕ). encode_all (s.frames ++ (f ∷ [])) ++ r) (sym (ap (drop (length bs - length rest)) whole ∙ drop_at (encode_all (s.frames ++ (f ∷ []))) rest (length bs - length rest) (sym long)));
       }
     where
       -- what was scanned, with one record more
-      front : encode_all (s.frames ++ (f ∷ [])) ≡ encode_all s.frames ++ encode f
-      front = encode_all-++ s.frames (f ∷ []) ∙ ap (λ (e : List ℕ). encode_all s.frames ++ e) (append-nil (encode f))
-
       whole : bs ≡ encode_all (s.frames ++ (f ∷ [])) ++ rest
-      whole = s.front ∙ ap (λ (r : List ℕ). encode_all s.frames ++ r) next ∙ sym (append_assoc (encode_all s.frames) (encode f) rest) ∙ ap (λ (a : List ℕ). a ++ rest) (sym front)
+      whole = bytes_push s.frames f rest s.front next
 
       long : length bs - length rest ≡ length (encode_all (s.frames ++ (f ∷ [])))
       long = omega (arith, ap length whole, length-append (encode_all (s.frames ++ (f ∷ []))) rest)

@@ -21,5 +21,5 @@ returns c =
     let kind = c.in_ok-kind.ensures in
     let small = small_behind kind (λ i. omega (arith, c.type_inv.bytes i)) in
     let note = reads_4 c.from_be_bytes.result small c.in_ok-note.ensures.cases c.from_be_bytes.ensures in
-    let number = reads_8 c.from_be_bytes-2.result (small_rest 4 _ _ _ c.in_ok-note.ensures.cases small) c.in_ok-number.ensures.cases c.from_be_bytes-2.ensures in
+    let number = reads_8 c.from_be_bytes-number.result (small_rest 4 _ _ _ c.in_ok-note.ensures.cases small) c.in_ok-number.ensures.cases c.from_be_bytes-number.ensures in
     kind ∙ ap (λ l. number_of c.in_ok-kind.field-0.kind ∷ l) (note ∙ ap (λ l. be 4 c.from_be_bytes.result ++ l) number)
