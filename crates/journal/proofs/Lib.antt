@@ -3,3 +3,4 @@ pub mod Loads
 pub mod Cuts
 pub mod Ends
 pub mod Copies
+pub mod Starts
