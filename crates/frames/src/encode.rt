@@ -24,7 +24,7 @@ fn put(out: &mut Vec<u8>, bytes: &[u8])
     requires { vec_len out.old + length bytes.now ≤ vec_capacity out.old }
     ensures { Added out.old out.new bytes.now }
 {
-    let _ = out.extend_from_slice(bytes);
+    out.extend_from_slice(bytes).unwrap();
 }
 
 fn put_head(out: &mut Vec<u8>, kind: Kind, note: NoteId, number: u64)

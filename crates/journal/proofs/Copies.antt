@@ -1,10 +1,6 @@
 -- One window more of what is copied.
 -- Assumes nothing.
-use Rattle.std.proofs.Common.{◌≡◌, ℕ, zero, suc, ◌+◌, ◌-◌, ◌<◌, ◌≤◌, min, List, [], ◌∷◌, ◌++◌, length, take, drop, Ok, Err, Result, MatchResult, sym, ap, ◌∙◌, suc-add, zero-add, arith, length-drop, length-take}
-use Rattle.protocol_files.specs.Disk.{Disk, with_beside, sync_beside}
-use Rattle.storage.specs.Changes.{Becomes, BecomesSome, Scribbled}
-use Rattle.storage.specs.declared.fault.Fault.{Fault}
-use Rattle.journal.specs.Openings.{with_copy}
+use Rattle.std.proofs.Common.{◌≡◌, ℕ, zero, suc, ◌+◌, ◌-◌, ◌<◌, ◌≤◌, min, List, [], ◌∷◌, ◌++◌, length, take, drop, sym, ap, ◌∙◌, suc-add, zero-add, arith, length-drop, length-take}
 
 take_on : {A : Type 0} → (i j : ℕ) (l : List A) → take i l ++ take j (drop i l) ≡ take (i + j) l
 take_on {A} zero j l = ap (λ (k : ℕ). take k l) (sym (zero-add j))
@@ -18,9 +14,3 @@ window bs w place most sure next enough less fits few is size =
     let long : length w ≡ most = ap length is ∙ (let l = length-take most (drop place bs) in let d = length-drop place bs in omega arith) in
     let same : place + most ≡ next = omega (arith, long) in
     (omega (arith, long), ap (λ (x : List ℕ). take place bs ++ x) is ∙ take_on place most bs ∙ ap (λ (k : ℕ). take k bs) same)
-
--- all of it stands beside, and is synced, or that failed
-module _ {A : Type 0} (holds : A → Disk → Type 0) (before written after : A) where
-  pub copied : (r : Result (Unit {0}) Fault) → Becomes holds before written (λ d. with_beside (record { synced = []; pending = d.file.synced }) d) → MatchResult r (λ _. Becomes holds written after sync_beside) (λ _. BecomesSome holds written after Scribbled) → MatchResult r (λ _. Becomes holds before after with_copy) (λ _. BecomesSome holds before after Scribbled)
-  copied (Ok _) copy done = λ d h. done (with_beside (record { synced = []; pending = d.file.synced }) d) (copy d h)
-  copied (Err _) copy fails = λ d h. let (e, q, (g, same)) = fails (with_beside (record { synced = []; pending = d.file.synced }) d) (copy d h) in (e, q, (g, same))

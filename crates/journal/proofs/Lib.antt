@@ -3,4 +3,3 @@ pub mod Loads
 pub mod Cuts
 pub mod Ends
 pub mod Copies
-pub mod Starts

@@ -1,12 +1,11 @@
 -- One record more at the front of bytes.
 -- Assumes nothing.
-use Rattle.std.proofs.Common.{◌≡◌, ℕ, ◌-◌, List, [], ◌∷◌, ◌++◌, length, drop, sym, refl, ap, ◌∙◌, subst, arith, length-append}
-use Rattle.std.proofs.lemmas.List.{drop_at}
+use Rattle.std.proofs.Common.{◌≡◌, ℕ, List, [], ◌∷◌, ◌++◌, refl}
 use Rattle.frames.specs.Format.{Frame, encode}
-use Rattle.frames.specs.Journal.{encode_all, IsRecord, Records, NoRecord}
+use Rattle.frames.specs.Journal.{encode_all, IsRecord, Records}
 use Rattle.frames.specs.declared.role.Role.{Role}
 use Rattle.frames.proofs.Records.{records_push, bytes_push}
-use Rattle.journal.specs.Replays.{Replayed, none, more, ScannedAll}
+use Rattle.journal.specs.Replays.{Replayed, none, more}
 
 -- bs are records, by which x has become y, and then the rest
 pub record Passed {X : Type 0} (R : X → Frame → X → Type 0) (role : Role) (bs rest : List ℕ) (x y : X) : Type 0 where
@@ -27,17 +26,3 @@ module _ {X : Type 0} (R : X → Frame → X → Type 0) (role : Role) (bs : Lis
         records = records_push role p.frames f p.records is;
         front = bytes_push p.frames f more_rest p.front next;
       }
-
-  -- no record follows
-  pub ended : (rest : List ℕ) (x y : X) → Passed R role bs rest x y → NoRecord role rest → ScannedAll R role bs (length bs - length rest) x y
-  ended rest x y p none_follows =
-      record {
-        scanned = record { frames = p.frames; replayed = p.replayed; records = p.records; size = size; front = p.front ∙ ap (λ (r : List ℕ). encode_all p.frames ++ r) (sym here) };
-        ends = subst (λ (r : List ℕ). NoRecord role r) (sym here) none_follows;
-      }
-    where
-      size : length bs - length rest ≡ length (encode_all p.frames)
-      size = omega (arith, ap length p.front, length-append (encode_all p.frames) rest)
-
-      here : drop (length bs - length rest) bs ≡ rest
-      here = ap (drop (length bs - length rest)) p.front ∙ drop_at (encode_all p.frames) rest (length bs - length rest) (sym size)

@@ -166,7 +166,7 @@ impl Storage for Memory {
         self.burn()?;
         let all = self.file.contents(self.heap)?;
         into.clear();
-        into.extend_from_slice(front(tail(all.as_slice(), place as usize), most))?;
+        into.extend_from_slice(front(tail(&all, place as usize), most))?;
         Ok(())
     }
 
@@ -180,8 +180,7 @@ impl Storage for Memory {
     fn set_aside(&mut self, place: u64) -> Result<(), Fault> {
         self.burn()?;
         let all = self.file.contents(self.heap)?;
-        self.aside
-            .extend_from_slice(tail(all.as_slice(), place as usize))?;
+        self.aside.extend_from_slice(tail(&all, place as usize))?;
         Ok(())
     }
 

@@ -1,9 +1,8 @@
 use Rattle.std.proofs.Common.{subst}
 use Rattle.frames.specs.Fronts.{BeginsRecord}
-use Rattle.frames.specs.Journal.{NoRecord}
 use Rattle.frames.specs.Views.{frame_of}
 use Rattle.frames.specs.declared.role.Role.{Role}
-use Rattle.journal.proofs.Scans.{begin, onward, ended}
+use Rattle.journal.proofs.Scans.{begin, onward}
 use Rattle.journal.proofs.load.replay_front.Goals as goal
 
 pub loop-front-init : goal.loop-front-init
@@ -15,8 +14,3 @@ loop-front-preserved g c =
     let rest = c.loop-front.rest.now in
     let begins = subst (λ (r : Role). BeginsRecord r rest x) c.ROLE.ensures c.in-Some.ensures in
     onward g.P.Replay.replays g.P.Replay.ROLE c.args.bytes.now rest x.rest.now c.args.party.now c.loop-front.party c.replay.new.self c.loop-front.invariant (frame_of x.frame) begins.is_record begins.front c.in_ok-replay.ensures
-
-pub returns : goal.returns
-returns g c =
-    let rest = c.loop-front.rest.now in
-    ended g.P.Replay.replays g.P.Replay.ROLE c.args.bytes.now rest c.args.party.now c.loop-front.party c.loop-front.invariant (subst (λ (r : Role). NoRecord r rest) c.ROLE.ensures c.in_default.ensures)

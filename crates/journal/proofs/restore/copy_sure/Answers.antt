@@ -1,7 +1,6 @@
-use Rattle.std.proofs.Common.{◌≡◌, ℕ, ◌+◌, ◌-◌, ◌≤◌, min, List, [], ◌++◌, length, take, vec_items, sym, ap, ◌∙◌, subst, arith, length-append}
-use Rattle.std.proofs.lemmas.List.{take_at}
+use Rattle.std.proofs.Common.{◌≡◌, ℕ, ◌+◌, ◌-◌, ◌≤◌, min, List, [], ◌++◌, length, take, vec_items, ap, ◌∙◌, subst, arith, length-append}
 use Rattle.protocol_files.specs.Disk.{contents, with_beside}
-use Rattle.journal.proofs.Copies.{window, copied}
+use Rattle.journal.proofs.Copies.{window}
 use Rattle.journal.proofs.restore.copy_sure.Goals as goal
 
 pub loop-place-preserved : goal.loop-place-preserved
@@ -28,14 +27,3 @@ loop-place-preserved g c =
       wrote.state ∙ read.state ∙ state,
       wrote.sent ∙ read.sent ∙ sent,
     )
-
-pub returns-clause-disk : goal.returns-clause-disk
-returns-clause-disk g c =
-    let (inv, state, sent) = c.loop-place.invariant in
-    copied g.S.Storage.holds c.args.store.now c.loop-place.store c.sync_beside.new.self c.sync_beside.result
-    (λ d h.
-    let size = c.sure-sure.ensures d h in
-    let (low, held) = inv d (c.in_ok-clear_beside.ensures.disk d h) size in
-    let all : c.loop-place.place ≡ length d.file.synced = omega (arith, c.loop-place-test.false) in
-    subst (λ (x : List ℕ). g.S.Storage.holds c.loop-place.store (with_beside (record { synced = []; pending = x }) d)) (take_at d.file.synced d.file.pending c.loop-place.place (sym all)) held)
-    c.sync_beside.ensures.disk
