@@ -1,5 +1,5 @@
 // The office with its file: what it begins is on the file, synced, before it sends it, and that it has ended before it says so.
-ghost use Rattle.std.specs.Prelude.{◌≡◌, ℕ, true, false, ◌⊎◌, [], ◌++◌, take, MatchResult, OnOk};
+ghost use Rattle.std.specs.Prelude.{◌≡◌, ℕ, false, ◌⊎◌, [], ◌++◌, take, MatchResult, OnOk};
 ghost use Rattle.notes.specs.Views.{bytes_of};
 ghost use Rattle.parties.specs.Views.{message_of, office_outcome};
 ghost use Rattle.protocol_tables.specs.Office.{empty_office, post, office_writes, office_hears, office_ticks};

@@ -1,5 +1,5 @@
 // A warden with its file: what it takes is on the file, synced, before it says so.
-ghost use Rattle.std.specs.Prelude.{◌≡◌, ℕ, ◌<◌, true, false, ◌⊎◌, [], ◌++◌, map, take, vec_len, vec_capacity, MatchResult, OnOk};
+ghost use Rattle.std.specs.Prelude.{◌≡◌, ℕ, ◌<◌, false, ◌⊎◌, [], ◌++◌, map, take, vec_len, vec_capacity, MatchResult, OnOk};
 ghost use Rattle.register.specs.Note.{none};
 ghost use Rattle.protocol.specs.Message.{Take, packets};
 ghost use Rattle.parties.specs.Views.{message_of, sends_of, warden_outcome};

@@ -1,5 +1,5 @@
 // A disk and a line in memory, on which the power can be cut at any place.
-ghost use Rattle.std.specs.Prelude.{◌≡◌, true, false, List, [], ◌∷◌, ◌++◌, take, drop, MatchResult};
+ghost use Rattle.std.specs.Prelude.{◌≡◌, [], take, drop};
 ghost use Rattle.protocol_files.specs.Disk.{empty_disk, keep, Cut};
 ghost use Rattle.storage.specs.Conditions.{opened};
 ghost use Rattle.storage.specs.Memories.{disk_of, sent_by, Holds, Reverts};

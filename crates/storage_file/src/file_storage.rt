@@ -3,7 +3,7 @@
 // No contract can say what a real file holds. So `holds` is never so here, and the clauses of the trait about the disk say nothing of
 // this end: that it does to the file what the trait says is trusted. `.ci/order-of-calls` compares the calls that it makes with those
 // that are expected, `.ci/failing-disk` what it answers where one of them fails. What is known of the file and what was sent is proved.
-ghost use Rattle.std.specs.Prelude.{◌≡◌, min, true, false, ◌⊎◌, [], map, IfOk, Ok, Err, vec_len, MatchResult, OnErr};
+ghost use Rattle.std.specs.Prelude.{◌≡◌, min, ◌⊎◌, [], map, IfOk, vec_len, MatchResult, OnErr};
 ghost use Rattle.storage.specs.Conditions.{opened};
 ghost use Rattle.storage.specs.Memories.{parcel_of};
 ghost use Rattle.storage.specs.declared.fault.Fault.TheVariants.{System};
