@@ -1,10 +1,12 @@
 -- A frame at the front of bytes, cut behind its kind and its two numbers.
 -- Assumes nothing.
-use Rattle.std.proofs.Common.{◌≡◌, ℕ, ◌≤◌, false, List, ◌∷◌, ◌++◌, length, Some, None, Option, sym, refl, ap, ◌∙◌, append_assoc, arith, length-append, MatchOption}
+use Rattle.std.proofs.Common.{◌≡◌, ℕ, ◌<◌, ◌≤◌, Bool, true, false, List, ◌∷◌, ◌++◌, length, Some, None, Option, sym, refl, ap, ◌∙◌, subst, append_assoc, arith, length-append, MatchOption}
+use denote.Bor.{Bor}
+use Rattle.std.specs.Bool.{then_some}
 use Rattle.std.proofs.lemmas.Bool.{both_ways}
 use Rattle.protocol.specs.Message.{Take, Took, Ask, Told}
 use Rattle.frames.specs.Format.{Frame, Sent, Begun, Ended, be, kind, about, number, valued, tail, encode}
-use Rattle.frames.specs.Fronts.{framed, Begins, NoFrame, GoesOn, NoTail}
+use Rattle.frames.specs.Fronts.{framed, Begins, BeginsRecord, NoFrame, GoesOn, NoTail, NoValue, EndsWith}
 use Rattle.frames.specs.Journal.{allowed, NoRecord}
 use Rattle.frames.specs.Views.{number_of, holds, kind_of, frame_of}
 use Rattle.frames.specs.declared.decode.Front.{Front}
@@ -14,7 +16,7 @@ use Rattle.frames.specs.declared.frame.Frame as read
 use Rattle.frames.specs.declared.frame.Frame.TheVariants as frames
 use Rattle.frames.specs.declared.kind.Kind.{Kind}
 use Rattle.frames.specs.declared.kind.Kind.TheVariants as kinds
-use Rattle.frames.proofs.Bytes.{same_rest}
+use Rattle.frames.proofs.Bytes.{length_be, same_rest}
 use Rattle.frames.proofs.Frames.{parts, length_encode, unique}
 
 -- the kind of a frame, as the code has it
@@ -69,11 +71,10 @@ behind {body = body} {k = k} s f more e =
     let b : body ≡ be 4 (about f) ++ (be 8 (number f) ++ (tail f ++ more)) = cc in
     (a, b)
 
-pub no_note : {bs body : List ℕ} {k : ℕ} → bs ≡ k ∷ body → ((n : ℕ) (more : List ℕ) → body ≡ be 4 n ++ more → ⊥) → NoFrame bs
-no_note s none f more h e = none (about f) _ (behind s f more e).1
-
-pub no_number : {bs body rest : List ℕ} {k : ℕ} (n : ℕ) → bs ≡ k ∷ body → body ≡ be 4 n ++ rest → ((m : ℕ) (more : List ℕ) → rest ≡ be 8 m ++ more → ⊥) → NoFrame bs
-no_number n s t none f more h e = none (number f) _ (same_rest 4 _ _ _ _ (sym t ∙ (behind s f more e).1))
+-- there is no room for the two numbers
+pub too_short : {bs body : List ℕ} {k : ℕ} → bs ≡ k ∷ body → length body < 12 → NoFrame bs
+too_short s l f more h e =
+    omega (arith, ap length (behind s f more e).1, length-append (be 4 (about f)) (be 8 (number f) ++ (tail f ++ more)), length-append (be 8 (number f)) (tail f ++ more), length_be 4 (about f), length_be 8 (number f))
 
 -- no edition and value, and so no told
 pub no_told : {bs : List ℕ} → ((n : ℕ) (v more : List ℕ) → length v ≤ 64 → bs ≡ be 8 n ++ (valued v ++ more) → ⊥) → NoTail 4 bs
@@ -83,6 +84,29 @@ no_told none (Sent k (Ask r)) more h i e = omega arith
 no_told none (Sent k (Told r x)) more h i e = none x.edition x.value more h.2.1 (e ∙ append_assoc (be 8 x.edition) (valued x.value) more)
 no_told none (Begun k x) more h i e = omega arith
 no_told none (Ended k x) more h i e = omega arith
+
+-- no value, and so no take or begun
+pub no_take : {bs : List ℕ} → NoValue bs → NoTail 1 bs
+no_take none (Sent k (Take x)) more h i e = none x.value more h.1.1 e
+no_take none (Sent k (Took x)) more h i e = omega arith
+no_take none (Sent k (Ask r)) more h i e = omega arith
+no_take none (Sent k (Told r x)) more h i e = omega arith
+no_take none (Begun k x) more h i e = omega arith
+no_take none (Ended k x) more h i e = omega arith
+
+pub no_begun : {bs : List ℕ} → NoValue bs → NoTail 5 bs
+no_begun none (Sent k (Take x)) more h i e = omega arith
+no_begun none (Sent k (Took x)) more h i e = omega arith
+no_begun none (Sent k (Ask r)) more h i e = omega arith
+no_begun none (Sent k (Told r x)) more h i e = omega arith
+no_begun none (Begun k x) more h i e = none x.value more h.1.1 e
+no_begun none (Ended k x) more h i e = omega arith
+
+-- a frame that a value ends: `make` makes it of the value, which begins where `rest` does
+module _ {bs rest : List ℕ} {k n m : ℕ} (make : Bor (List ℕ) → read.Frame) (none : NoValue rest → NoTail k bs) (goes : (v more : Bor (List ℕ)) → length v.now ≤ 64 → rest ≡ valued v.now ++ more.now → GoesOn k n m bs (record { frame = make v; rest = more })) where
+  pub with_value : {Made : Bor (List ℕ) → read.Frame → Type 0} → ((v : Bor (List ℕ)) (f : read.Frame) → Made v f → f ≡ make v) → (o : Option Front) → MatchOption o (NoValue rest) (EndsWith Made rest) → MatchOption o (NoTail k bs) (GoesOn k n m bs)
+  with_value is None h = none h
+  with_value is (Some x) h = subst (λ f. GoesOn k n m bs (record { frame = f; rest = x.rest })) (sym (is h.value x.frame h.is_made)) (goes h.value x.rest h.short h.front)
 
 -- bytes, cut behind a kind and two numbers
 pub record Parted (bs : List ℕ) (k n m : ℕ) (rest : List ℕ) : Type 0 where
@@ -120,3 +144,12 @@ pub no_record : {bs : List ℕ} (r : Role) (x : Front) → Begins bs x → holds
 no_record r x b h f more p e =
     let same = (unique f (frame_of x.frame) more x.rest.now p.0 b.fits (sym e ∙ b.front)).0 in
     both_ways (allowed r f) (allowed_is r f ∙ ap (λ g. holds r (kind_at g)) same ∙ ap (holds r) (kind_of_is x.frame) ∙ h) p.1
+
+-- what a frame at the front is, if records of its kind may stand on the file
+record_if : {bs : List ℕ} (r : Role) (x : Front) (held : Bool) → held ≡ holds r (kind_of x.frame) → Begins bs x → MatchOption (then_some held x) (NoRecord r bs) (BeginsRecord r bs)
+record_if r x true same b = record { is_record = (b.fits, allowed_is r (frame_of x.frame) ∙ ap (holds r) (kind_of_is x.frame) ∙ sym same); front = b.front; shorter = b.shorter }
+record_if r x false same b = no_record r x b (sym same)
+
+pub record_from : (bs : List ℕ) (r : Role) {Says : Front → Bool → Type 0} → ((x : Front) (held : Bool) → Says x held → held ≡ holds r (kind_of x.frame)) → (o p : Option Front) → MatchOption o (NoFrame bs) (Begins bs) → MatchOption o (p ≡ None) (λ x. (held : Bool) × Says x held × (p ≡ then_some held x)) → MatchOption p (NoRecord r bs) (BeginsRecord r bs)
+record_from bs r says None p none is = rw is (λ f more h e. none f more h.0 e)
+record_from bs r says (Some x) p begun (held, said, is) = rw is (record_if r x held (says x held said) begun)

@@ -1,6 +1,6 @@
 -- Records: how long their bytes are; and the bytes of many.
 -- Assumes nothing.
-use Rattle.std.proofs.Common.{◌≡◌, ℕ, zero, suc, ◌+◌, ◌-◌, ◌<◌, ◌≤◌, List, [], ◌∷◌, ◌++◌, length, take, drop, sym, refl, ap, ◌∙◌, append_assoc, append-nil, arith}
+use Rattle.std.proofs.Common.{◌≡◌, ℕ, zero, suc, ◌+◌, ◌-◌, ◌<◌, ◌≤◌, List, [], ◌∷◌, ◌++◌, length, take, sym, refl, ap, ◌∙◌, append_assoc, append-nil, arith}
 use lib.Seq.{take-append-add}
 use Rattle.std.proofs.lemmas.Bool.{false≢true}
 use Rattle.protocol.specs.Message.{Take, Took, Ask, Told}
@@ -52,11 +52,6 @@ pub records_take : (r : Role) (m : ℕ) (fs : List Frame) → Records r fs → R
 records_take r zero fs p = tt
 records_take r (suc m) [] p = tt
 records_take r (suc m) (f ∷ fs) p = (p.0, records_take r m fs p.1)
-
-pub records_drop : (r : Role) (m : ℕ) (fs : List Frame) → Records r fs → Records r (drop m fs)
-records_drop r zero fs p = p
-records_drop r (suc m) [] p = tt
-records_drop r (suc m) (f ∷ fs) p = records_drop r m fs p.1
 
 -- a loop over a file passes one record more
 pub records_push : (r : Role) (fs : List Frame) (f : Frame) → Records r fs → IsRecord r f → Records r (fs ++ f ∷ [])

@@ -2,7 +2,6 @@
 -- Assumes nothing.
 use Rattle.std.proofs.Common.{◌≡◌, ℕ, ◌+◌, ◌-◌, ◌^◌, ◌<◌, ◌≤◌, true, false, cond, ltb, List, [], ◌∷◌, ◌++◌, length, get_or, take, drop, replicate, Decides, sym, refl, ap, ◌∙◌, subst, ⊎_elim, append_assoc, append-nil, arith, length-append, length-drop, take-append-drop, length-take-le}
 use lib.ListN.{length-replicate}
-use Rattle.std.proofs.ByRecursion.{All-take}
 use Rattle.std.proofs.lemmas.List.{take_at, drop_more, get_or_at, get_or_append_left, nil_from_length}
 use Rattle.std.proofs.lemmas.Bool.{false≢true, cases_lt, ltb-true, lt-ltb}
 use Rattle.std.proofs.lemmas.Bool.Decides.{nat_tests}
@@ -15,11 +14,11 @@ use Rattle.frames.specs.declared.role.Role.{Role}
 use Rattle.frames.specs.declared.role.Role.TheVariants.{Warden, Office}
 use Rattle.frames.specs.declared.kind.Kind.{Kind}
 use Rattle.frames.specs.declared.kind.Kind.TheVariants as kinds
-use Rattle.frames.proofs.Bytes.{length_be}
+use Rattle.frames.proofs.Bytes.{length_be, Small, small_take}
 use Rattle.frames.proofs.Fronts.{kind_at, kind_is, allowed_is, behind}
 use Rattle.frames.proofs.Records.{record_some}
 use Rattle.frames.proofs.Room.{head_none, head_rest}
-use Rattle.frames.proofs.Written.{Bytes, fill}
+use Rattle.frames.proofs.Written.{fill}
 
 -- ---- the front of a record, by what it lacks
 
@@ -52,7 +51,7 @@ encode_is f = refl
 
 -- a record with a value: x makes it of its two numbers and the value
 module _ (r : Role) (k : ℕ) (x : (n m : ℕ) → List ℕ → Frame) (fits : (n m : ℕ) (v : List ℕ) → n < 2 ^ 32 → m < 2 ^ 64 → length v ≤ 64 → IsRecord r (x n m v)) (is : (n m : ℕ) (v : List ℕ) → encode (x n m v) ≡ framed k n m (valued v)) where
-  no_length : (body : List ℕ) → Bytes body → length body ≤ 12 → StrictFront r (k ∷ body)
+  no_length : (body : List ℕ) → Small body → length body ≤ 12 → StrictFront r (k ∷ body)
   no_length body h l =
       let p = fill body h l in
       let n = p.n in
@@ -61,14 +60,14 @@ module _ (r : Role) (k : ℕ) (x : (n m : ℕ) → List ℕ → Frame) (fits : (
       let e : encode (x n m []) ≡ (k ∷ body) ++ rest = is n m [] ∙ sym (head_rest k n m (0 ∷ [])) ∙ ap (λ l. k ∷ (l ++ (0 ∷ []))) p.is ∙ ap (λ l. k ∷ l) (append_assoc body p.zeros (0 ∷ [])) in
       strict r (k ∷ body) (x n m []) rest (fits n m [] p.n_room p.m_room (omega arith)) e (omega (arith, length-append p.zeros (0 ∷ [])))
 
-  short_value : (body : List ℕ) → Bytes body → 12 < length body → get_or body 12 0 ≤ 64 → length body - 12 ≤ get_or body 12 0 → StrictFront r (k ∷ body)
+  short_value : (body : List ℕ) → Small body → 12 < length body → get_or body 12 0 ≤ 64 → length body - 12 ≤ get_or body 12 0 → StrictFront r (k ∷ body)
   short_value body h l small short =
       let front = take 12 body in
       let size = get_or body 12 0 in
       let had = drop (12 + 1) body in
       let rest : List ℕ = replicate (size - length had) 0 in
       let long : length front ≡ 12 = length-take-le 12 body (omega arith) in
-      let p = fill front (All-take (λ b. b < 256) 12 body h) (omega arith) in
+      let p = fill front (small_take 12 body h) (omega arith) in
       let n = p.n in
       let m = p.m in
       let zeros : p.zeros ≡ [] = nil_from_length p.zeros (omega (arith, p.long)) in
@@ -81,7 +80,7 @@ module _ (r : Role) (k : ℕ) (x : (n m : ℕ) → List ℕ → Frame) (fits : (
       is n m (had ++ rest) ∙ sym (head_rest k n m (valued (had ++ rest))) ∙ (λ i. k ∷ (numbers i ++ (all i ∷ (had ++ rest)))) ∙ ap (λ l. k ∷ l) (sym (append_assoc front (size ∷ had) rest)) ∙ ap (λ l. k ∷ (l ++ rest)) parts in
       strict r (k ∷ body) (x n m (had ++ rest)) rest (fits n m (had ++ rest) p.n_room p.m_room (omega arith)) e (omega arith)
 
-  early_value : (body : List ℕ) → Bytes body → value_early body ≡ true → StrictFront r (k ∷ body)
+  early_value : (body : List ℕ) → Small body → value_early body ≡ true → StrictFront r (k ∷ body)
   early_value body h e =
       ⊎_elim
       (λ l.
@@ -91,14 +90,14 @@ module _ (r : Role) (k : ℕ) (x : (n m : ℕ) → List ℕ → Frame) (fits : (
       (λ l. no_length body h l)
       (cases_lt 12 (length body))
 
-early_ended : (body : List ℕ) → Bytes body → length body < 12 → StrictFront Office (6 ∷ body)
+early_ended : (body : List ℕ) → Small body → length body < 12 → StrictFront Office (6 ∷ body)
 early_ended body h l =
     let p = fill body h (omega arith) in
     let n = p.n in
     let m = p.m in
     strict Office (6 ∷ body) (Ended n m) p.zeros ((p.n_room, p.m_room), refl) (encode_is (Ended n m) ∙ sym (head_none 6 n m) ∙ ap (λ l. 6 ∷ l) p.is) (omega (arith, p.long))
 
-early_front : (r : Role) (k : Kind) (body : List ℕ) → holds r k ≡ true → Bytes body → ends_early_lem k body ≡ true → StrictFront r (number_of k ∷ body)
+early_front : (r : Role) (k : Kind) (body : List ℕ) → holds r k ≡ true → Small body → ends_early_lem k body ≡ true → StrictFront r (number_of k ∷ body)
 early_front Warden kinds.Take body o h e =
     early_value Warden 1 (λ n m v. Sent n (Take (record { edition = m; value = v }))) (λ n m v a b c. ((a, (b, c)), refl)) (λ n m v. encode_is (Sent n (Take (record { edition = m; value = v })))) body h e
 early_front Warden kinds.Took body o h e = absurd (false≢true o)
@@ -187,5 +186,5 @@ module _ (r : Role) (k : Kind) (bs body : List ℕ) (e : bs ≡ number_of k ∷ 
   pub not_held : holds r k ≡ false → StrictFront r bs → ⊥
   not_held h s = false≢true (sym h ∙ (late r k body (subst (StrictFront r) e s)).0)
 
-  pub decides_early : holds r k ≡ true → Bytes body → Decides (ends_early_lem k body) (StrictFront r bs)
+  pub decides_early : holds r k ≡ true → Small body → Decides (ends_early_lem k body) (StrictFront r bs)
   decides_early h b = (λ t. subst (StrictFront r) (sym e) (early_front r k body h b t), λ s. (late r k body (subst (StrictFront r) e s)).1)

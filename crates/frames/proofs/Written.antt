@@ -1,52 +1,27 @@
--- Bytes as numbers: whatever stands in some bytes, a number is written so.
+-- Bytes as numbers: whatever stands in twelve bytes, two numbers are written so.
 -- Assumes nothing.
-use Rattle.std.proofs.Common.{◌≡◌, ℕ, suc, ◌+◌, ◌-◌, ◌*◌, ◌^◌, ◌<◌, ◌≤◌, List, [], ◌∷◌, ◌++◌, length, get_or, take, drop, replicate, sym, ap, ◌∙◌, subst, append_assoc, append-nil, add-zero, zero-add, arith, length-append, length-drop, take-append-drop, length-take-le}
+use Rattle.std.proofs.Common.{◌≡◌, ℕ, zero, suc, ◌-◌, ◌^◌, ◌<◌, ◌≤◌, List, [], ◌∷◌, ◌++◌, length, take, drop, replicate, sym, refl, ap, ◌∙◌, append-nil, arith, length-append, length-drop}
 use lib.ListN.{length-replicate}
-use Rattle.std.proofs.ByRecursion.{All-append, All-take, All-drop, All-from_get_or}
-use Rattle.std.proofs.lemmas.List.{get_or-replicate}
-use Rattle.std.specs.List.{AllByRecursion as All}
+use Rattle.std.specs.Int.{w32, w64, from_be_bytes}
+use Rattle.std.proofs.lemmas.List.{drop_all}
 use Rattle.frames.specs.Format.{be}
-use Rattle.frames.proofs.Bytes.{be_none, be_more, pow_more}
+use Rattle.frames.proofs.Bytes.{Small, small_take, small_rest, reads_4, reads_8}
 
-abbrev pub Bytes : List ℕ → Type 0
-Bytes bs = All (λ b. b < 256) bs
+small_zeros : (k : ℕ) → Small (replicate k 0)
+small_zeros zero i = omega arith
+small_zeros (suc k) zero = omega arith
+small_zeros (suc k) (suc i) = small_zeros k i
 
--- what stands behind the first byte
-pub bytes_behind : {bs body : List ℕ} {n : ℕ} → bs ≡ n ∷ body → ((i : ℕ) → get_or bs i 0 < 256) → Bytes body
-bytes_behind {body = body} e h =
-    All-from_get_or (λ b. b < 256) body 0 (λ i l. subst (λ xs. get_or xs (suc i) 0 < 256) e (h (suc i)))
+small_append : (bs more : List ℕ) → Small bs → Small more → Small (bs ++ more)
+small_append [] more h g i = g i
+small_append (b ∷ bs) more h g zero = h zero
+small_append (b ∷ bs) more h g (suc i) = small_append bs more (λ j. h (suc j)) g i
 
--- the number that bytes write, behind those of n
-abbrev number_from : ℕ → List ℕ → ℕ
-number_from n [] = n
-number_from n (b ∷ bs) = number_from (n * 256 + b) bs
+room_4 : (bs : List ℕ) → Small bs → from_be_bytes w32 bs < 2 ^ 32
+room_4 bs h = omega (arith, h 0, h 1, h 2, h 3)
 
-be_from : (k n : ℕ) (bs : List ℕ) → Bytes bs → be (k + length bs) (number_from n bs) ≡ be k n ++ bs
-be_from k n [] h = ap (λ i. be i n) (add-zero k) ∙ sym (append-nil (be k n))
-be_from k n (b ∷ bs) h =
-    let at : k + length (b ∷ bs) ≡ k + 1 + length bs = omega arith in
-    ap (λ i. be i (number_from n (b ∷ bs))) at ∙ be_from (k + 1) (n * 256 + b) bs h.1 ∙ ap (λ l. l ++ bs) (be_more k n b h.0) ∙ append_assoc (be k n) (b ∷ []) bs
-
-room_from : (k n : ℕ) (bs : List ℕ) → Bytes bs → n < 256 ^ k → number_from n bs < 256 ^ (k + length bs)
-room_from k n [] h l = rw add-zero l
-room_from k n (b ∷ bs) h l =
-    let at : k + 1 + length bs ≡ k + length (b ∷ bs) = omega arith in
-    subst (λ i. number_from n (b ∷ bs) < 256 ^ i) at (room_from (k + 1) (n * 256 + b) bs h.1 (pow_more k n b l h.0))
-
--- the number that k bytes write
-record Reads (k : ℕ) (bs : List ℕ) : Type 0 where
-  n : ℕ
-  room : n < 256 ^ k
-  is : be k n ≡ bs
-
-reads : (k : ℕ) (bs : List ℕ) → length bs ≡ k → Bytes bs → Reads k bs
-reads k bs l h =
-    let at : 0 + length bs ≡ k = zero-add (length bs) ∙ l in
-    record {
-      n = number_from 0 bs;
-      room = subst (λ i. number_from 0 bs < 256 ^ i) at (room_from 0 0 bs h (omega arith));
-      is = ap (λ i. be i (number_from 0 bs)) (sym at) ∙ be_from 0 0 bs h ∙ ap (λ l. l ++ bs) (be_none 0);
-    }
+room_8 : (bs : List ℕ) → Small bs → from_be_bytes w64 bs < 2 ^ 64
+room_8 bs h = omega (arith, h 0, h 1, h 2, h 3, h 4, h 5, h 6, h 7)
 
 -- at most twelve bytes, filled up with zeros, are two numbers
 pub record Filled (bs : List ℕ) : Type 0 where
@@ -58,23 +33,28 @@ pub record Filled (bs : List ℕ) : Type 0 where
   pub is : be 4 n ++ be 8 m ≡ bs ++ zeros
   pub long : length zeros ≡ 12 - length bs
 
-all_zero : (k : ℕ) → Bytes (replicate k 0)
-all_zero k = All-from_get_or (λ b. b < 256) (replicate k 0) 0 (λ i l. omega (arith, get_or-replicate {A = ℕ} k i 0 0 (omega (arith, length-replicate {A = ℕ} k 0))))
-
-pub fill : (bs : List ℕ) → Bytes bs → length bs ≤ 12 → Filled bs
+pub fill : (bs : List ℕ) → Small bs → length bs ≤ 12 → Filled bs
 fill bs h l =
     let zeros = replicate (12 - length bs) 0 in
     let all = bs ++ zeros in
-    let bytes = All-append (λ b. b < 256) bs zeros h (all_zero (12 - length bs)) in
-    let long : length all ≡ 12 = omega (arith, length-append bs zeros, length-replicate {A = ℕ} (12 - length bs) 0) in
-    let a = reads 4 (take 4 all) (length-take-le 4 all (omega arith)) (All-take (λ b. b < 256) 4 all bytes) in
-    let b = reads 8 (drop 4 all) (omega (arith, length-drop 4 all)) (All-drop (λ b. b < 256) 4 all bytes) in
+    let few : length zeros ≡ 12 - length bs = length-replicate (12 - length bs) 0 in
+    let long : length all ≡ 12 = omega (arith, length-append bs zeros, few) in
+    let small = small_append bs zeros h (small_zeros (12 - length bs)) in
+    let rest = drop 4 all in
+    let eight : length rest ≡ 8 = omega (arith, length-drop 4 all) in
+    let small_8 = small_rest 4 all (take 4 all) rest (refl, refl, omega arith) small in
+    let n = from_be_bytes w32 (take 4 all) in
+    let m = from_be_bytes w64 (take 8 rest) in
+    let note : all ≡ be 4 n ++ rest = reads_4 n small (refl, refl, omega arith) refl in
+    let number : rest ≡ be 8 m ++ drop 8 rest = reads_8 m small_8 (refl, refl, omega (arith, length-drop 8 rest)) refl in
+    let none : drop 8 rest ≡ [] = drop_all 8 rest (omega arith) in
+    let whole : be 8 m ≡ rest = sym (append-nil (be 8 m)) ∙ ap (λ l. be 8 m ++ l) (sym none) ∙ sym number in
     record {
-      n = a.n;
-      m = b.n;
+      n = n;
+      m = m;
       zeros = zeros;
-      n_room = a.room;
-      m_room = b.room;
-      is = (λ i. a.is i ++ b.is i) ∙ take-append-drop 4 all;
-      long = length-replicate (12 - length bs) 0;
+      n_room = room_4 (take 4 all) (small_take 4 all small);
+      m_room = room_8 (take 8 rest) (small_take 8 rest small_8);
+      is = ap (λ l. be 4 n ++ l) whole ∙ sym note;
+      long = few;
     }

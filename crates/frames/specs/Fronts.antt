@@ -1,10 +1,12 @@
 -- A frame at the front of bytes, and what follows it.
 -- Assumes nothing.
-use Rattle.std.specs.Prelude.{◌≡◌, ℕ, ◌-◌, ◌<◌, Bool, true, cond, ◌&&◌, List, ◌∷◌, ◌++◌, length, ◌≢◌, nat_le, nat_lt, slice_index}
-use Rattle.frames.specs.Format.{Frame, be, kind, about, number, tail, encode, Fits}
+use denote.Bor.{Bor}
+use Rattle.std.specs.Prelude.{◌≡◌, ℕ, ◌-◌, ◌<◌, ◌≤◌, Bool, true, cond, ◌&&◌, List, ◌∷◌, ◌++◌, length, ◌≢◌, nat_le, nat_lt, slice_index}
+use Rattle.frames.specs.Format.{Frame, be, kind, about, number, valued, tail, encode, Fits}
 use Rattle.frames.specs.Journal.{IsRecord}
 use Rattle.frames.specs.Views.{frame_of}
 use Rattle.frames.specs.declared.decode.Front.{Front}
+use Rattle.frames.specs.declared.frame.Frame as read
 use Rattle.frames.specs.declared.kind.Kind.{Kind}
 use Rattle.frames.specs.declared.kind.Kind.TheVariants as kinds
 use Rattle.frames.specs.declared.role.Role.{Role}
@@ -40,6 +42,17 @@ pub record GoesOn (k n m : ℕ) (bs : List ℕ) (x : Front) : Type 0 where
 -- no frame of the kind goes on so
 abbrev pub NoTail : ℕ → List ℕ → Type 0
 NoTail k bs = (f : Frame) (more : List ℕ) → Fits f → kind f ≡ k → bs ≢ tail f ++ more
+
+-- no value stands at the front
+abbrev pub NoValue : List ℕ → Type 0
+NoValue bs = (v more : List ℕ) → length v ≤ 64 → bs ≢ valued v ++ more
+
+-- bs begins with the value of which the frame was made, and goes on with the rest
+pub record EndsWith (made : Bor (List ℕ) → read.Frame → Type 0) (bs : List ℕ) (x : Front) : Type 0 where
+  pub value : Bor (List ℕ)
+  pub is_made : made value x.frame
+  pub front : bs ≡ valued value.now ++ x.rest.now
+  pub short : length value.now ≤ 64
 
 -- behind twelve bytes a value and its length end before they should
 abbrev pub value_early : List ℕ → Bool

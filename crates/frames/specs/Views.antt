@@ -1,12 +1,13 @@
 -- What the code's values say, as the definitions of the bytes have it.
 -- Assumes nothing.
-use Rattle.std.specs.Prelude.{ℕ, Bool, true, false}
+use Rattle.std.specs.Prelude.{◌≡◌, ℕ, Bool, true, false, Result, MatchResult, ◌≢◌}
 use Rattle.protocol.specs.Message as messages
 use Rattle.frames.specs.Format as format
 use Rattle.frames.specs.declared.role.Role.{Role}
 use Rattle.frames.specs.declared.role.Role.TheVariants.{Warden, Office}
 use Rattle.frames.specs.declared.kind.Kind.{Kind}
 use Rattle.frames.specs.declared.kind.Kind.TheVariants as kinds
+use Rattle.frames.specs.declared.kind.UnknownKind.{UnknownKind}
 use Rattle.frames.specs.declared.frame.Frame.{Frame}
 use Rattle.frames.specs.declared.frame.Frame.TheVariants as frames
 
@@ -18,6 +19,10 @@ number_of kinds.Ask = 3
 number_of kinds.Told = 4
 number_of kinds.Begun = 5
 number_of kinds.Ended = 6
+
+-- the kind that a byte stands for; or an error with that byte, and no kind has it
+abbrev pub Decodes : ℕ → Result Kind UnknownKind → Type 0
+Decodes byte r = MatchResult r (λ kind. number_of kind ≡ byte) (λ e. (e.0 ≡ byte) × ((kind : Kind) → number_of kind ≢ byte))
 
 -- which kinds may stand on a file
 abbrev pub holds : Role → Kind → Bool

@@ -24,14 +24,14 @@ fn put(out: &mut Vec<u8>, bytes: &[u8])
     requires { vec_len out.old + length bytes.now ≤ vec_capacity out.old }
     ensures { Added out.old out.new bytes.now }
 {
-    let _ = out.extend_from_slice(bytes);
+    out.extend_from_slice(bytes).unwrap();
 }
 
 fn put_head(out: &mut Vec<u8>, kind: Kind, note: NoteId, number: u64)
     requires { vec_len out.old + 13 ≤ vec_capacity out.old }
     ensures { Added out.old out.new (number_of kind ∷ (be 4 note.0 ++ be 8 number)) }
 {
-    put(out, &[kind.number()]);
+    put(out, &[u8::from(kind)]);
     put(out, &note.0.to_be_bytes());
     put(out, &number.to_be_bytes());
 }
@@ -56,6 +56,7 @@ fn put_bare(out: &mut Vec<u8>, kind: Kind, note: NoteId, number: u64) -> Result<
 }
 
 // Adds a frame of a kind, two numbers and a value.
+#[tactic(auto, using(crate::proofs::Room::value_short))]
 fn put_valued(
     out: &mut Vec<u8>,
     kind: Kind,
@@ -74,6 +75,7 @@ fn put_valued(
 }
 
 /// Adds a take: this note is to be taken.
+#[tactic(auto, unfolding(crate::specs::Format::encode))]
 pub fn put_take(out: &mut Vec<u8>, note: NoteId, what: &Note) -> Result<(), AllocError>
     ensures items { out.new.items ≡ (if is_ok result then out.old.items ++ encode (Sent note.0 (Take (note_of what.now))) else out.old.items) }
     ensures fits { Fits (Sent note.0 (Take (note_of what.now))) }
@@ -82,6 +84,7 @@ pub fn put_take(out: &mut Vec<u8>, note: NoteId, what: &Note) -> Result<(), Allo
 }
 
 /// Adds a took: that edition is taken.
+#[tactic(auto, unfolding(crate::specs::Format::encode))]
 pub fn put_took(out: &mut Vec<u8>, note: NoteId, edition: Edition) -> Result<(), AllocError>
     ensures items { out.new.items ≡ (if is_ok result then out.old.items ++ encode (Sent note.0 (Took edition.0)) else out.old.items) }
     ensures fits { Fits (Sent note.0 (Took edition.0)) }
@@ -90,6 +93,7 @@ pub fn put_took(out: &mut Vec<u8>, note: NoteId, edition: Edition) -> Result<(),
 }
 
 /// Adds an ask: what is had, in that round.
+#[tactic(auto, unfolding(crate::specs::Format::encode))]
 pub fn put_ask(out: &mut Vec<u8>, note: NoteId, round: RoundNumber) -> Result<(), AllocError>
     ensures items { out.new.items ≡ (if is_ok result then out.old.items ++ encode (Sent note.0 (Ask round.0)) else out.old.items) }
     ensures fits { Fits (Sent note.0 (Ask round.0)) }
@@ -98,6 +102,7 @@ pub fn put_ask(out: &mut Vec<u8>, note: NoteId, round: RoundNumber) -> Result<()
 }
 
 /// Adds a told: what is had, to who asked in that round.
+#[tactic(auto, using(crate::proofs::Room::value_short))]
 pub fn put_told(
     out: &mut Vec<u8>,
     note: NoteId,
@@ -117,6 +122,7 @@ pub fn put_told(
 }
 
 /// Adds a begun: the office has begun that edition.
+#[tactic(auto, unfolding(crate::specs::Format::encode))]
 pub fn put_begun(out: &mut Vec<u8>, note: NoteId, what: &Note) -> Result<(), AllocError>
     ensures items { out.new.items ≡ (if is_ok result then out.old.items ++ encode (Begun note.0 (note_of what.now)) else out.old.items) }
     ensures fits { Fits (Begun note.0 (note_of what.now)) }
@@ -125,6 +131,7 @@ pub fn put_begun(out: &mut Vec<u8>, note: NoteId, what: &Note) -> Result<(), All
 }
 
 /// Adds an ended: the writing of that edition has come to an end.
+#[tactic(auto, unfolding(crate::specs::Format::encode))]
 pub fn put_ended(out: &mut Vec<u8>, note: NoteId, edition: Edition) -> Result<(), AllocError>
     ensures items { out.new.items ≡ (if is_ok result then out.old.items ++ encode (Ended note.0 edition.0) else out.old.items) }
     ensures fits { Fits (Ended note.0 edition.0) }

@@ -1,10 +1,9 @@
 // What a frame begins with.
-ghost use Rattle.std.specs.Prelude.{◌≡◌, MatchOption, ◌≢◌};
-ghost use Rattle.frames.specs.Views.{number_of};
-ghost use Rattle.frames.specs.declared.kind.Kind.{Kind as AnyKind};
+ghost use Rattle.std.specs.Prelude.{◌≡◌};
+ghost use Rattle.frames.specs.Views.{number_of, Decodes};
 
 /// The kinds of frames: four of messages, and two that stand on the office's file alone. The numbers 7 and 8 are kept free.
-#[derive(Clone, Copy)]
+#[derive(Clone, Copy, Debug, PartialEq, Eq)]
 pub enum Kind {
     Take = 1,
     Took = 2,
@@ -14,33 +13,34 @@ pub enum Kind {
     Ended = 6,
 }
 
-impl Kind {
+/// A byte that stands for no kind.
+#[derive(Clone, Copy, Debug, PartialEq, Eq)]
+pub struct UnknownKind(pub u8);
+
+impl From<Kind> for u8 {
+    ghost from_gives = { λ kind byte. byte ≡ number_of kind };
+
     /// The byte that stands for it.
-    pub fn number(self) -> u8
-        ensures { result ≡ number_of self }
-    {
-        match self {
-            Kind::Take => 1,
-            Kind::Took => 2,
-            Kind::Ask => 3,
-            Kind::Told => 4,
-            Kind::Begun => 5,
-            Kind::Ended => 6,
-        }
+    fn from(kind: Kind) -> u8 {
+        kind as u8
     }
+}
+
+impl TryFrom<u8> for Kind {
+    type Error = UnknownKind;
+
+    ghost try_from_gives = { Decodes };
 
     /// The kind that a byte stands for, if it stands for one.
-    pub fn of(byte: u8) -> Option<Kind>
-        ensures { MatchOption result ((k : AnyKind) → number_of k ≢ byte) (λ k. number_of k ≡ byte) }
-    {
+    fn try_from(byte: u8) -> Result<Kind, UnknownKind> {
         match byte {
-            1 => Some(Kind::Take),
-            2 => Some(Kind::Took),
-            3 => Some(Kind::Ask),
-            4 => Some(Kind::Told),
-            5 => Some(Kind::Begun),
-            6 => Some(Kind::Ended),
-            _ => None,
+            1 => Ok(Kind::Take),
+            2 => Ok(Kind::Took),
+            3 => Ok(Kind::Ask),
+            4 => Ok(Kind::Told),
+            5 => Ok(Kind::Begun),
+            6 => Ok(Kind::Ended),
+            _ => Err(UnknownKind(byte)),
         }
     }
 }

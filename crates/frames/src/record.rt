@@ -3,7 +3,7 @@ ghost use Rattle.std.specs.Prelude.{◌≡◌, Decides, MatchOption};
 ghost use Rattle.frames.specs.Journal.{NoRecord, StrictFront};
 ghost use Rattle.frames.specs.Fronts.{BeginsRecord, ends_early_lem};
 
-use crate::decode::{Front, first, split_kind};
+use crate::decode::{Front, Parcel, first, split_kind};
 use crate::kind::Kind;
 use crate::role::Role;
 use notes::value::LONGEST;
@@ -15,25 +15,20 @@ const NUMBERS: usize = 12;
 pub fn first_record(role: Role, bytes: &[u8]) -> Option<Front<'_>>
     ensures { MatchOption result (NoRecord role bytes.now) (BeginsRecord role bytes.now) }
 {
-    let front = first(bytes)?;
-    if role.may_hold(front.frame.kind()) {
-        Some(front)
-    } else {
-        None
-    }
+    first(bytes).filter(|front| role.may_hold(front.frame.kind()))
 }
 
 // Whether what stands behind the kind of a record ends before the record does.
 fn ends_early(kind: Kind, body: &[u8]) -> bool
     ensures { result ≡ ends_early_lem kind body.now }
 {
-    if let Kind::Ended = kind {
+    if kind == Kind::Ended {
         return body.len() < NUMBERS;
     }
-    if body.len() <= NUMBERS {
+    let Some(size) = body.get(NUMBERS) else {
         return true;
-    }
-    let size = body[NUMBERS] as usize;
+    };
+    let size = usize::from(*size);
     size <= LONGEST && body.len() - NUMBERS <= size
 }
 
@@ -41,14 +36,11 @@ fn ends_early(kind: Kind, body: &[u8]) -> bool
 pub fn is_strict_front(role: Role, bytes: &[u8]) -> bool
     ensures { Decides result (StrictFront role bytes.now) }
 {
-    if bytes.len() == 0 {
+    if bytes.is_empty() {
         return true;
     }
-    let Some(parcel) = split_kind(bytes) else {
-        return false;
-    };
-    if !role.may_hold(parcel.kind) {
-        return false;
+    match split_kind(bytes) {
+        Some(Parcel { kind, body }) => role.may_hold(kind) && ends_early(kind, body),
+        None => false,
     }
-    ends_early(parcel.kind, parcel.body)
 }

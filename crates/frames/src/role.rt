@@ -5,7 +5,7 @@ ghost use Rattle.frames.specs.Views.{holds};
 use crate::kind::Kind;
 
 /// Whose file it is.
-#[derive(Clone, Copy)]
+#[derive(Clone, Copy, Debug, PartialEq, Eq)]
 pub enum Role {
     Warden,
     Office,
@@ -16,11 +16,9 @@ impl Role {
     pub fn may_hold(self, kind: Kind) -> bool
         ensures { result ≡ holds self kind }
     {
-        match (self, kind) {
-            (Role::Warden, Kind::Take) => true,
-            (Role::Office, Kind::Begun) => true,
-            (Role::Office, Kind::Ended) => true,
-            _ => false,
-        }
+        matches!(
+            (self, kind),
+            (Role::Warden, Kind::Take) | (Role::Office, Kind::Begun | Kind::Ended)
+        )
     }
 }

@@ -1,33 +1,28 @@
 -- One record more at the front of bytes.
 -- Assumes nothing.
-use Rattle.std.proofs.Common.{◌≡◌, ℕ, ◌-◌, List, [], ◌∷◌, ◌++◌, length, drop, sym, refl, ap, ◌∙◌, append_assoc, append-nil, arith, length-append}
-use Rattle.std.proofs.lemmas.List.{drop_at}
+use Rattle.std.proofs.Common.{◌≡◌, ℕ, List, [], ◌∷◌, ◌++◌, refl}
 use Rattle.frames.specs.Format.{Frame, encode}
-use Rattle.frames.specs.Journal.{encode_all, IsRecord}
+use Rattle.frames.specs.Journal.{encode_all, IsRecord, Records}
 use Rattle.frames.specs.declared.role.Role.{Role}
-use Rattle.frames.proofs.Records.{encode_all-++, records-++}
-use Rattle.journal.specs.Replays.{none, more, Scanned}
+use Rattle.frames.proofs.Records.{records_push, bytes_push}
+use Rattle.journal.specs.Replays.{Replayed, none, more}
+
+-- bs are records, by which x has become y, and then the rest
+pub record Passed {X : Type 0} (R : X → Frame → X → Type 0) (role : Role) (bs rest : List ℕ) (x y : X) : Type 0 where
+  pub frames : List Frame
+  pub replayed : Replayed R x frames y
+  pub records : Records role frames
+  pub front : bs ≡ encode_all frames ++ rest
 
 module _ {X : Type 0} (R : X → Frame → X → Type 0) (role : Role) (bs : List ℕ) where
-  pub begin : (x : X) → Scanned R role bs 0 x x
-  begin x = record { frames = []; replayed = none; records = tt; size = refl; front = refl }
+  pub begin : (x : X) → Passed R role bs bs x x
+  begin x = record { frames = []; replayed = none; records = tt; front = refl }
 
-  pub onward : (n : ℕ) (x y z : X) → Scanned R role bs n x y → (f : Frame) (rest : List ℕ) → IsRecord role f → drop n bs ≡ encode f ++ rest → R y f z → Scanned R role bs (length bs - length rest) x z
-  onward n x y z s f rest is next step =
+  pub onward : (rest more_rest : List ℕ) (x y z : X) → Passed R role bs rest x y → (f : Frame) → IsRecord role f → rest ≡ encode f ++ more_rest → R y f z → Passed R role bs more_rest x z
+  onward rest more_rest x y z p f is next step =
       record {
-        frames = s.frames ++ (f ∷ []);
-        replayed = more s.replayed f step;
-        records = records-++ role s.frames (f ∷ []) s.records (is, tt);
-        size = long;
-        front = whole ∙ ap (λ (r : List ℕ). encode_all (s.frames ++ (f ∷ [])) ++ r) (sym (ap (drop (length bs - length rest)) whole ∙ drop_at (encode_all (s.frames ++ (f ∷ []))) rest (length bs - length rest) (sym long)));
+        frames = p.frames ++ (f ∷ []);
+        replayed = more p.replayed f step;
+        records = records_push role p.frames f p.records is;
+        front = bytes_push p.frames f more_rest p.front next;
       }
-    where
-      -- what was scanned, with one record more
-      front : encode_all (s.frames ++ (f ∷ [])) ≡ encode_all s.frames ++ encode f
-      front = encode_all-++ s.frames (f ∷ []) ∙ ap (λ (e : List ℕ). encode_all s.frames ++ e) (append-nil (encode f))
-
-      whole : bs ≡ encode_all (s.frames ++ (f ∷ [])) ++ rest
-      whole = s.front ∙ ap (λ (r : List ℕ). encode_all s.frames ++ r) next ∙ sym (append_assoc (encode_all s.frames) (encode f) rest) ∙ ap (λ (a : List ℕ). a ++ rest) (sym front)
-
-      long : length bs - length rest ≡ length (encode_all (s.frames ++ (f ∷ [])))
-      long = omega (arith, ap length whole, length-append (encode_all (s.frames ++ (f ∷ []))) rest)

@@ -1,8 +1,9 @@
 // Opening a file: what is on it is read, cut back to its last whole record and synced, before anything is answered.
-ghost use Rattle.std.specs.Prelude.{◌≡◌, ◌-◌, true, false, length, IfOk, MatchBool, MatchResult, OnOk};
+ghost use Rattle.std.specs.Prelude.{◌≡◌, ◌-◌, length, IfOk, MatchBool, MatchResult, OnOk};
 ghost use Rattle.frames.specs.Journal.{StrictFront};
 ghost use Rattle.protocol_files.specs.Disk.{Disk, contents, cut_back};
 ghost use Rattle.storage.specs.Changes.{Becomes, BecomesSome, Stays, Perhaps};
+ghost use Rattle.storage.specs.Conditions.{settled};
 ghost use Rattle.journal.specs.Openings.{Opened, Unopened};
 
 use crate::load::load;
@@ -17,19 +18,18 @@ use storage::storage::Storage;
 pub fn open<P: Replay, S: Storage>(
     party: &mut P,
     store: &mut S,
-    role: Role,
     window: &mut Vec<u8>,
 ) -> Result<Opening, Fault>
-    ensures opened { MatchResult result (λ o. Opened P.Replay.replays role (S.Storage.holds store.old) (S.Storage.holds store.new) party.old party.new o) (λ _. Unopened role (S.Storage.holds store.old) (S.Storage.holds store.new)) }
-    ensures state { OnOk result (S.Storage.state store.new ≡ record { synced = true; placed = true; trusted = true }) }
+    ensures opened { MatchResult result (λ o. Opened P.Replay.replays P.Replay.ROLE (S.Storage.holds store.old) (S.Storage.holds store.new) party.old party.new o) (λ _. Unopened P.Replay.ROLE (S.Storage.holds store.old) (S.Storage.holds store.new)) }
+    ensures state { OnOk result (S.Storage.state store.new ≡ settled) }
     ensures sent { S.Storage.sent store.new ≡ S.Storage.sent store.old }
 {
     if !store.condition().trusted {
         return Err(Fault::System);
     }
     store.clear_beside()?;
-    let whole = load(party, store, role, window)?;
-    let opening = cut_off(store, role, whole, window.as_slice())?;
+    let whole = load(party, store, window)?;
+    let opening = cut_off(store, P::ROLE, whole, window)?;
     store.sync_folder()?;
     store.sync()?;
     Ok(opening)

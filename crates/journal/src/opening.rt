@@ -1,6 +1,6 @@
 // What was found behind the last whole record of a file.
 
-#[derive(Clone, Copy)]
+#[derive(Clone, Copy, Debug, PartialEq, Eq)]
 pub struct Opening {
     /// How many bytes were cut off.
     pub cut: u64,

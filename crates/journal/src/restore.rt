@@ -1,13 +1,13 @@
 // After a failed write or sync nothing of the file is trusted but what was synced before: that is written anew beside, and takes the place of the file.
-ghost use Rattle.std.specs.Prelude.{◌≡◌, true, false, MatchResult, OnOk};
+ghost use Rattle.std.specs.Prelude.{◌≡◌, MatchResult, OnOk};
 ghost use Rattle.storage.specs.Changes.{Becomes, BecomesSome, Scribbled};
+ghost use Rattle.storage.specs.Conditions.{settled};
 ghost use Rattle.journal.specs.Openings.{Restored, Unrestored, with_copy};
 
 use crate::load::WINDOW;
 use crate::open::open;
 use crate::opening::Opening;
 use crate::replay::Replay;
-use frames::role::Role;
 use storage::fault::Fault;
 use storage::storage::Storage;
 
@@ -15,16 +15,15 @@ use storage::storage::Storage;
 pub fn restore<P: Replay, S: Storage>(
     party: &mut P,
     store: &mut S,
-    role: Role,
     window: &mut Vec<u8>,
 ) -> Result<Opening, Fault>
-    ensures restored { MatchResult result (λ _. Restored P.Replay.replays role (S.Storage.holds store.old) (S.Storage.holds store.new) party.old party.new) (λ _. Unrestored role (S.Storage.holds store.old) (S.Storage.holds store.new)) }
-    ensures state { OnOk result (S.Storage.state store.new ≡ record { synced = true; placed = true; trusted = true }) }
+    ensures restored { MatchResult result (λ _. Restored P.Replay.replays P.Replay.ROLE (S.Storage.holds store.old) (S.Storage.holds store.new) party.old party.new) (λ _. Unrestored P.Replay.ROLE (S.Storage.holds store.old) (S.Storage.holds store.new)) }
+    ensures state { OnOk result (S.Storage.state store.new ≡ settled) }
     ensures sent { S.Storage.sent store.new ≡ S.Storage.sent store.old }
 {
     copy_sure(store, window)?;
     store.rename()?;
-    open(party, store, role, window)
+    open(party, store, window)
 }
 
 // What is sure stands beside, synced.
@@ -39,12 +38,11 @@ fn copy_sure<S: Storage>(store: &mut S, window: &mut Vec<u8>) -> Result<(), Faul
     while place < sure {
         let most = (sure - place).min(WINDOW as u64) as usize;
         store.read(place, most, window)?;
-        if window.len() == 0 {
+        if window.is_empty() {
             return Err(Fault::System);
         }
-        store.write_beside(window.as_slice())?;
+        store.write_beside(window)?;
         place = place.saturating_add(window.len() as u64);
     }
-    store.sync_beside()?;
-    Ok(())
+    store.sync_beside()
 }

@@ -1,11 +1,12 @@
 // The office with its file: what it begins is on the file, synced, before it sends it, and that it has ended before it says so.
-ghost use Rattle.std.specs.Prelude.{◌≡◌, ℕ, true, false, ◌⊎◌, [], ◌++◌, take, MatchResult, OnOk};
+ghost use Rattle.std.specs.Prelude.{◌≡◌, ℕ, false, ◌⊎◌, [], ◌++◌, take, MatchResult, OnOk};
 ghost use Rattle.notes.specs.Views.{bytes_of};
 ghost use Rattle.parties.specs.Views.{message_of, office_outcome};
 ghost use Rattle.protocol_tables.specs.Office.{empty_office, post, office_writes, office_hears, office_ticks};
 ghost use Rattle.protocol_files.specs.Disk.{Disk, append, sync};
 ghost use Rattle.frames.specs.Format.{Begun, Ended, encode};
 ghost use Rattle.frames.specs.declared.role.Role.TheVariants.{Office as Writing};
+ghost use Rattle.storage.specs.Conditions.{settled};
 ghost use Rattle.storage.specs.Changes.{Becomes};
 ghost use Rattle.journal.specs.Openings.{Unstarted};
 ghost use Rattle.parties_files.specs.Commits.{Commits};
@@ -59,7 +60,7 @@ impl Office {
     /// trusted, what is sure of it is written anew first.
     pub fn start<S: Storage>(&mut self, store: &mut S) -> Result<Opening, Fault>
         ensures started { MatchResult result (λ o. Started (S.Storage.holds store.old) (S.Storage.holds store.new) self.old self.new (S.Storage.state store.old).trusted o) (λ _. (self.new.up ≡ false) × Unstarted Writing (S.Storage.holds store.old) (S.Storage.holds store.new)) }
-        ensures state { OnOk result (S.Storage.state store.new ≡ record { synced = true; placed = true; trusted = true }) }
+        ensures state { OnOk result (S.Storage.state store.new ≡ settled) }
         ensures sent { S.Storage.sent store.new ≡ S.Storage.sent store.old }
         ensures runs { self.old.up ≡ false → OfficeRuns self.old.desks.quorum.wardens self.old.desks.quorum.faults (S.Storage.holds store.old) (S.Storage.holds store.new) self.old self.new (λ bag. bag) }
     {
@@ -68,13 +69,12 @@ impl Office {
 
     fn replay_file<S: Storage>(&mut self, store: &mut S) -> Result<Opening, Fault>
         ensures started { MatchResult result (λ o. Started (S.Storage.holds store.old) (S.Storage.holds store.new) self.old self.new (S.Storage.state store.old).trusted o) (λ _. (self.new.up ≡ false) × Unstarted Writing (S.Storage.holds store.old) (S.Storage.holds store.new)) }
-        ensures state { OnOk result (S.Storage.state store.new ≡ record { synced = true; placed = true; trusted = true }) }
+        ensures state { OnOk result (S.Storage.state store.new ≡ settled) }
         ensures sent { S.Storage.sent store.new ≡ S.Storage.sent store.old }
     {
         let mut fresh = Office::new(self.heap, self.desks.quorum);
-        let mut window = Vec::new(self.heap);
         self.up = false;
-        let opening = start(&mut fresh, store, Role::Office, &mut window)?;
+        let opening = start(self.heap, &mut fresh, store)?;
         fresh.up = true;
         *self = fresh;
         Ok(opening)
@@ -82,6 +82,10 @@ impl Office {
 }
 
 impl Replay for Office {
+    const ROLE: Role = Role::Office;
+
+    ghost ROLE = { Writing };
+
     ghost replays = { Replays };
 
     fn replay(&mut self, frame: Frame<'_>) -> Result<(), Fault> {
@@ -214,7 +218,7 @@ impl Office {
         ensures desks { self.new.desks ≡ self.old.desks }
         ensures up { self.new.up ≡ self.old.up }
         ensures disk { Commits S.Storage.holds store.old store.new (encode (Begun number.0 ((desks_of self.old).desks.at number.0).now)) result }
-        ensures state { OnOk result (S.Storage.state store.new ≡ record { synced = true; placed = true; trusted = true }) }
+        ensures state { OnOk result (S.Storage.state store.new ≡ settled) }
         ensures sent { S.Storage.sent store.new ≡ S.Storage.sent store.old }
     {
         let note = self.desks.desk(number).now;

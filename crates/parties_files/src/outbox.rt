@@ -1,6 +1,7 @@
 // What waits for a sync.
 ghost use Rattle.std.specs.Prelude.{◌≡◌, ℕ, true, ◌++◌, map, take, MatchResult, OnOk};
 ghost use Rattle.protocol_files.specs.Disk.{sync};
+ghost use Rattle.storage.specs.Conditions.{settled};
 ghost use Rattle.storage.specs.Changes.{Becomes, BecomesSome, Stays, Shortened};
 ghost use Rattle.parties.specs.Views.{message_of};
 ghost use Rattle.storage.specs.Memories.{parcel_of};
@@ -15,7 +16,7 @@ use storage::storage::Storage;
 /// Syncs what was written, if anything was.
 pub fn settle<S: Storage>(store: &mut S) -> Result<(), Fault>
     ensures disk { MatchResult result (λ _. Becomes S.Storage.holds store.old store.new sync) (λ _. BecomesSome S.Storage.holds store.old store.new Shortened) }
-    ensures state { OnOk result (S.Storage.state store.new ≡ record { synced = true; placed = true; trusted = true }) }
+    ensures state { OnOk result (S.Storage.state store.new ≡ settled) }
     ensures sent { S.Storage.sent store.new ≡ S.Storage.sent store.old }
 {
     let known = store.condition();
@@ -49,7 +50,7 @@ pub fn release<S: Storage>(store: &mut S, outbox: &[Outgoing]) -> Result<(), Fau
 /// Writes bytes to a file on which all is synced, and syncs them. If that fails, some first part of them may stand on it.
 pub fn commit<S: Storage>(store: &mut S, bytes: &[u8]) -> Result<(), Fault>
     ensures disk { Commits S.Storage.holds store.old store.new bytes.now result }
-    ensures state { OnOk result (S.Storage.state store.new ≡ record { synced = true; placed = true; trusted = true }) }
+    ensures state { OnOk result (S.Storage.state store.new ≡ settled) }
     ensures sent { S.Storage.sent store.new ≡ S.Storage.sent store.old }
 {
     if !store.condition().synced {

@@ -1,5 +1,5 @@
 // A warden with its file: what it takes is on the file, synced, before it says so.
-ghost use Rattle.std.specs.Prelude.{◌≡◌, ℕ, ◌<◌, true, false, ◌⊎◌, [], ◌++◌, map, take, vec_len, vec_capacity, MatchResult, OnOk};
+ghost use Rattle.std.specs.Prelude.{◌≡◌, ℕ, ◌<◌, false, ◌⊎◌, [], ◌++◌, map, take, vec_len, vec_capacity, MatchResult, OnOk};
 ghost use Rattle.register.specs.Note.{none};
 ghost use Rattle.protocol.specs.Message.{Take, packets};
 ghost use Rattle.parties.specs.Views.{message_of, sends_of, warden_outcome};
@@ -9,6 +9,7 @@ ghost use Rattle.frames.specs.Format.{Sent, encode};
 ghost use Rattle.frames.specs.declared.role.Role.TheVariants.{Warden as Keeping};
 ghost use Rattle.protocol_files.specs.Disk.{append};
 ghost use Rattle.journal.specs.Openings.{Unstarted};
+ghost use Rattle.storage.specs.Conditions.{settled};
 ghost use Rattle.storage.specs.Changes.{Becomes, Stays};
 ghost use Rattle.storage.specs.Memories.{parcel_of};
 ghost use Rattle.parties_files.specs.Promises.{WardenRuns, WardenHears};
@@ -62,7 +63,7 @@ impl Warden {
     /// Opens its file: what is on it, it has. If the file is not to be trusted, what is sure of it is written anew first.
     pub fn start<S: Storage>(&mut self, store: &mut S) -> Result<Opening, Fault>
         ensures started { MatchResult result (λ o. Started (S.Storage.holds store.old) (S.Storage.holds store.new) self.new (S.Storage.state store.old).trusted o) (λ _. (self.new.up ≡ false) × Unstarted Keeping (S.Storage.holds store.old) (S.Storage.holds store.new)) }
-        ensures state { OnOk result (S.Storage.state store.new ≡ record { synced = true; placed = true; trusted = true }) }
+        ensures state { OnOk result (S.Storage.state store.new ≡ settled) }
         ensures sent { S.Storage.sent store.new ≡ S.Storage.sent store.old }
         ensures runs { self.old.up ≡ false → WardenRuns (S.Storage.holds store.old) (S.Storage.holds store.new) self.old self.new (λ i. []) }
     {
@@ -71,13 +72,12 @@ impl Warden {
 
     fn replay_file<S: Storage>(&mut self, store: &mut S) -> Result<Opening, Fault>
         ensures started { MatchResult result (λ o. Started (S.Storage.holds store.old) (S.Storage.holds store.new) self.new (S.Storage.state store.old).trusted o) (λ _. (self.new.up ≡ false) × Unstarted Keeping (S.Storage.holds store.old) (S.Storage.holds store.new)) }
-        ensures state { OnOk result (S.Storage.state store.new ≡ record { synced = true; placed = true; trusted = true }) }
+        ensures state { OnOk result (S.Storage.state store.new ≡ settled) }
         ensures sent { S.Storage.sent store.new ≡ S.Storage.sent store.old }
     {
         let mut fresh = Warden::new(self.heap);
-        let mut window = Vec::new(self.heap);
         self.up = false;
-        let opening = start(&mut fresh, store, Role::Warden, &mut window)?;
+        let opening = start(self.heap, &mut fresh, store)?;
         fresh.up = true;
         *self = fresh;
         Ok(opening)
@@ -195,6 +195,10 @@ impl Warden {
 }
 
 impl Replay for Warden {
+    const ROLE: Role = Role::Warden;
+
+    ghost ROLE = { Keeping };
+
     ghost replays = { Replays };
 
     fn replay(&mut self, frame: Frame<'_>) -> Result<(), Fault> {

@@ -1,2 +1,3 @@
+pub mod Conditions
 pub mod Changes
 pub mod Memories

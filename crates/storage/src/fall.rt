@@ -1,6 +1,6 @@
 // How a party falls.
 
-#[derive(Clone, Copy)]
+#[derive(Clone, Copy, Debug, PartialEq, Eq)]
 pub enum Fall {
     /// The process is killed: all that it wrote is there, still pending.
     Killed,

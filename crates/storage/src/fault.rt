@@ -1,10 +1,11 @@
 // Why something could not be done.
 ghost use Rattle.std.specs.Prelude.{◌≡◌};
-ghost use Rattle.storage.specs.declared.fault.Fault.TheVariants.{Memory};
+ghost use Rattle.storage.specs.declared.fault.Fault.TheVariants.{Memory, System};
 
 use std::alloc::{AllocError, AllocFailed};
+use std::io;
 
-#[derive(Clone, Copy)]
+#[derive(Clone, Copy, Debug, PartialEq, Eq)]
 pub enum Fault {
     /// There is no memory for it.
     Memory,
@@ -25,5 +26,13 @@ impl<T: Drop> From<AllocFailed<T>> for Fault {
 
     fn from(_error: AllocFailed<T>) -> Fault {
         Fault::Memory
+    }
+}
+
+impl From<io::Error> for Fault {
+    ghost from_gives = { λ _ r. r ≡ System };
+
+    fn from(_error: io::Error) -> Fault {
+        Fault::System
     }
 }

@@ -34,7 +34,7 @@ impl Image {
     pub fn sync(&mut self) -> Result<(), AllocError>
         ensures { MatchResult result (λ _. file_of self.new ≡ record { synced = contents (file_of self.old); pending = [] }) (λ _. file_of self.new ≡ file_of self.old) }
     {
-        self.synced.extend_from_slice(self.pending.as_slice())?;
+        self.synced.extend_from_slice(&self.pending)?;
         self.pending.clear();
         Ok(())
     }
@@ -59,8 +59,8 @@ impl Image {
     pub fn contents(&self, heap: Global) -> Result<Vec<u8>, AllocError>
         ensures { IfOk result (λ v. v.items ≡ contents (file_of self.now)) }
     {
-        let mut all = Vec::from_slice(heap, self.synced.as_slice())?;
-        all.extend_from_slice(self.pending.as_slice())?;
+        let mut all = Vec::from_slice(heap, &self.synced)?;
+        all.extend_from_slice(&self.pending)?;
         Ok(all)
     }
 }

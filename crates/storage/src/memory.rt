@@ -1,6 +1,7 @@
 // A disk and a line in memory, on which the power can be cut at any place.
-ghost use Rattle.std.specs.Prelude.{◌≡◌, true, false, List, [], ◌∷◌, ◌++◌, take, drop, MatchResult};
+ghost use Rattle.std.specs.Prelude.{◌≡◌, [], take, drop};
 ghost use Rattle.protocol_files.specs.Disk.{empty_disk, keep, Cut};
+ghost use Rattle.storage.specs.Conditions.{opened};
 ghost use Rattle.storage.specs.Memories.{disk_of, sent_by, Holds, Reverts};
 ghost use Rattle.std.proofs.Common.{rules};
 
@@ -31,7 +32,7 @@ impl Memory {
     /// An empty disk, on which no file was opened yet.
     pub fn new(heap: Global) -> Memory
         ensures disk { disk_of result ≡ empty_disk }
-        ensures state { result.condition ≡ record { synced = false; placed = false; trusted = true } }
+        ensures state { result.condition ≡ opened }
         ensures sent { sent_by result ≡ [] }
     {
         Memory {
@@ -41,11 +42,7 @@ impl Memory {
             former: Vec::new(heap),
             outlet: Vec::new(heap),
             aside: Vec::new(heap),
-            condition: Condition {
-                synced: false,
-                placed: false,
-                trusted: true,
-            },
+            condition: Condition::opened(),
             fuse: None,
         }
     }
@@ -53,14 +50,10 @@ impl Memory {
     /// The party falls. What is known of the file begins anew, and nothing fails any more.
     pub fn fall(&mut self, fall: Fall)
         ensures disk { Cut (disk_of self.old) (disk_of self.new) }
-        ensures state { self.new.condition ≡ record { synced = false; placed = false; trusted = true } }
+        ensures state { self.new.condition ≡ opened }
         ensures sent { sent_by self.new ≡ sent_by self.old }
     {
-        self.condition = Condition {
-            synced: false,
-            placed: false,
-            trusted: true,
-        };
+        self.condition = Condition::opened();
         self.fuse = None;
         match fall {
             Fall::Killed => {}
@@ -92,20 +85,16 @@ impl Memory {
         }
     }
 
-    // One more call: whether it can be done, or the fuse has burnt down.
-    fn burns(&mut self) -> bool
+    // One more call, unless the fuse has burnt down.
+    fn burn(&mut self) -> Result<(), Fault>
         ensures disk { disk_of self.new ≡ disk_of self.old }
         ensures state { self.new.condition ≡ self.old.condition }
         ensures sent { sent_by self.new ≡ sent_by self.old }
     {
-        match self.fuse {
-            None => true,
-            Some(0) => false,
-            Some(left) => {
-                self.fuse = Some(left - 1);
-                true
-            }
+        if let Some(left) = self.fuse {
+            self.fuse = Some(left.checked_sub(1).ok_or(Fault::System)?);
         }
+        Ok(())
     }
 }
 
@@ -113,22 +102,14 @@ impl Memory {
 fn tail(bytes: &[u8], place: usize) -> &[u8]
     ensures { result.now ≡ drop place bytes.now }
 {
-    if place < bytes.len() {
-        &bytes[place..]
-    } else {
-        &bytes[bytes.len()..]
-    }
+    bytes.get(place..).unwrap_or_default()
 }
 
 // So many bytes at the front, or all.
 fn front(bytes: &[u8], most: usize) -> &[u8]
     ensures { result.now ≡ take most bytes.now }
 {
-    if most < bytes.len() {
-        &bytes[0..most]
-    } else {
-        bytes
-    }
+    bytes.get(..most).unwrap_or(bytes)
 }
 
 impl Storage for Memory {
@@ -151,14 +132,12 @@ impl Storage for Memory {
     }
 
     fn length(&mut self) -> Result<u64, Fault> {
-        if !self.burns() {
-            return Err(Fault::System);
-        }
-        let size = self.file.synced.len();
-        match size.checked_add(self.file.pending.len()) {
-            Some(size) => Ok(size as u64),
-            None => Err(Fault::Memory),
-        }
+        self.burn()?;
+        let synced = self.file.synced.len();
+        let size = synced
+            .checked_add(self.file.pending.len())
+            .ok_or(Fault::Memory)?;
+        Ok(size as u64)
     }
 
     fn append(&mut self, bytes: &[u8]) -> Result<(), Fault> {
@@ -170,79 +149,56 @@ impl Storage for Memory {
     fn sync(&mut self) -> Result<(), Fault> {
         self.condition.synced = false;
         self.condition.trusted = false;
-        if !self.burns() {
-            return Err(Fault::System);
-        }
-        let Ok(()) = self.file.sync() else {
-            return Err(Fault::Memory);
-        };
+        self.burn()?;
+        self.file.sync()?;
         self.condition.synced = true;
         self.condition.trusted = true;
         Ok(())
     }
 
     fn send(&mut self, what: Outgoing) -> Result<(), Fault> {
-        if !self.burns() {
-            return Err(Fault::System);
-        }
+        self.burn()?;
         self.outlet.push(what)?;
         Ok(())
     }
 
     fn read(&mut self, place: u64, most: usize, into: &mut Vec<u8>) -> Result<(), Fault> {
-        if !self.burns() {
-            return Err(Fault::System);
-        }
+        self.burn()?;
         let all = self.file.contents(self.heap)?;
         into.clear();
-        into.extend_from_slice(front(tail(all.as_slice(), place as usize), most))?;
+        into.extend_from_slice(front(tail(&all, place as usize), most))?;
         Ok(())
     }
 
     fn cut_back(&mut self, kept: u64) -> Result<(), Fault> {
         self.condition.synced = false;
-        if !self.burns() {
-            return Err(Fault::System);
-        }
+        self.burn()?;
         self.file.cut_back(kept as usize);
         Ok(())
     }
 
     fn set_aside(&mut self, place: u64) -> Result<(), Fault> {
-        if !self.burns() {
-            return Err(Fault::System);
-        }
+        self.burn()?;
         let all = self.file.contents(self.heap)?;
-        self.aside
-            .extend_from_slice(tail(all.as_slice(), place as usize))?;
+        self.aside.extend_from_slice(tail(&all, place as usize))?;
         Ok(())
     }
 
     fn clear_beside(&mut self) -> Result<(), Fault> {
-        if !self.burns() {
-            return Err(Fault::System);
-        }
+        self.burn()?;
         self.beside = Image::new(self.heap);
         Ok(())
     }
 
     fn write_beside(&mut self, bytes: &[u8]) -> Result<(), Fault> {
-        if !self.burns() {
-            return Err(Fault::System);
-        }
-        let Ok(()) = self.beside.append(bytes) else {
-            return Err(Fault::Memory);
-        };
+        self.burn()?;
+        self.beside.append(bytes)?;
         Ok(())
     }
 
     fn sync_beside(&mut self) -> Result<(), Fault> {
-        if !self.burns() {
-            return Err(Fault::System);
-        }
-        let Ok(()) = self.beside.sync() else {
-            return Err(Fault::Memory);
-        };
+        self.burn()?;
+        self.beside.sync()?;
         Ok(())
     }
 
@@ -252,9 +208,7 @@ impl Storage for Memory {
             placed: false,
             trusted: false,
         };
-        if !self.burns() {
-            return Err(Fault::System);
-        }
+        self.burn()?;
         self.former.insert(0, Image::new(self.heap))?;
         std::mem::swap(&mut self.former[0], &mut self.file);
         std::mem::swap(&mut self.file, &mut self.beside);
@@ -263,9 +217,7 @@ impl Storage for Memory {
     }
 
     fn sync_folder(&mut self) -> Result<(), Fault> {
-        if !self.burns() {
-            return Err(Fault::System);
-        }
+        self.burn()?;
         self.former.clear();
         self.condition.placed = true;
         Ok(())

@@ -3,7 +3,8 @@
 // No contract can say what a real file holds. So `holds` is never so here, and the clauses of the trait about the disk say nothing of
 // this end: that it does to the file what the trait says is trusted. `.ci/order-of-calls` compares the calls that it makes with those
 // that are expected, `.ci/failing-disk` what it answers where one of them fails. What is known of the file and what was sent is proved.
-ghost use Rattle.std.specs.Prelude.{◌≡◌, min, true, false, ◌⊎◌, [], map, IfOk, Ok, Err, vec_len, MatchResult, OnErr};
+ghost use Rattle.std.specs.Prelude.{◌≡◌, min, ◌⊎◌, [], map, IfOk, vec_len, MatchResult, OnErr};
+ghost use Rattle.storage.specs.Conditions.{opened};
 ghost use Rattle.storage.specs.Memories.{parcel_of};
 ghost use Rattle.storage.specs.declared.fault.Fault.TheVariants.{System};
 ghost use Rattle.std.proofs.Common.{rules};
@@ -17,16 +18,6 @@ use storage::condition::Condition;
 use storage::fault::Fault;
 use storage::outgoing::Outgoing;
 use storage::storage::Storage;
-
-// What came of a call to the system, with the storage's word for its failure.
-fn to_fault<T>(done: io::Result<T>) -> Result<T, Fault>
-    ensures { MatchResult done (λ x. result ≡ Ok x) (λ _. result ≡ Err System) }
-{
-    match done {
-        Ok(value) => Ok(value),
-        Err(_) => Err(Fault::System),
-    }
-}
 
 /// A file that is read anywhere and written at its end.
 #[derive(Drop)]
@@ -131,7 +122,7 @@ impl FileStorage {
     /// Opens the file, or makes it. Nothing of it is known to be synced: it may have been written by a process that was killed.
     /// Nor can it be known that a sync failed in an earlier process, after which the system may show bytes that it does not keep.
     pub fn new(rt: &HostRuntime, path: &str) -> io::Result<FileStorage>
-        ensures state { IfOk result (λ s. s.condition ≡ record { synced = false; placed = false; trusted = true }) }
+        ensures state { IfOk result (λ s. s.condition ≡ opened) }
         ensures sent { IfOk result (λ s. s.outlet.items ≡ []) }
     {
         let heap = rt.alloc();
@@ -150,11 +141,7 @@ impl FileStorage {
             beside: Beside::Unknown,
             unwritten: Vec::new(heap),
             outlet: Vec::new(heap),
-            condition: Condition {
-                synced: false,
-                placed: false,
-                trusted: true,
-            },
+            condition: Condition::opened(),
         })
     }
 
@@ -191,14 +178,8 @@ fn begun(beside: &mut Beside, rt: &HostRuntime, path: &str) -> io::Result<Opened
 // Removes a file, if it is there.
 fn remove(rt: &HostRuntime, path: &str) -> io::Result<()> {
     match fs::remove_file(rt, path) {
-        Ok(()) => Ok(()),
-        Err(error) => {
-            if error.kind() == io::ErrorKind::NotFound {
-                Ok(())
-            } else {
-                Err(error)
-            }
-        }
+        Err(error) if error.kind() != io::ErrorKind::NotFound => Err(error),
+        _ => Ok(()),
     }
 }
 
@@ -227,7 +208,7 @@ impl Storage for FileStorage {
 
     fn length(&mut self) -> Result<u64, Fault> {
         self.all_written()?;
-        to_fault(self.file.length())
+        Ok(self.file.length()?)
     }
 
     fn append(&mut self, bytes: &[u8]) -> Result<(), Fault> {
@@ -240,9 +221,9 @@ impl Storage for FileStorage {
     fn sync(&mut self) -> Result<(), Fault> {
         self.condition.synced = false;
         self.condition.trusted = false;
-        let done = self.file.write_and_sync(self.unwritten.as_slice());
+        let done = self.file.write_and_sync(&self.unwritten);
         self.unwritten.clear();
-        to_fault(done)?;
+        done?;
         self.condition.synced = true;
         self.condition.trusted = true;
         Ok(())
@@ -255,40 +236,40 @@ impl Storage for FileStorage {
 
     fn read(&mut self, place: u64, most: usize, into: &mut Vec<u8>) -> Result<(), Fault> {
         self.all_written()?;
-        to_fault(self.file.read(place, most, into))
+        self.file.read(place, most, into)?;
+        Ok(())
     }
 
     fn cut_back(&mut self, kept: u64) -> Result<(), Fault> {
         self.condition.synced = false;
         self.all_written()?;
-        to_fault(self.file.cut_back(kept))
+        self.file.cut_back(kept)?;
+        Ok(())
     }
 
     fn set_aside(&mut self, place: u64) -> Result<(), Fault> {
         self.all_written()?;
-        to_fault(
-            self.file
-                .copy_from(place, &self.rt, self.damaged_path.as_str()),
-        )
+        self.file.copy_from(place, &self.rt, &self.damaged_path)?;
+        Ok(())
     }
 
     fn clear_beside(&mut self) -> Result<(), Fault> {
         self.beside = Beside::Unknown;
-        to_fault(remove(&self.rt, self.beside_path.as_str()))?;
+        remove(&self.rt, &self.beside_path)?;
         self.beside = Beside::Blank;
         Ok(())
     }
 
     fn write_beside(&mut self, bytes: &[u8]) -> Result<(), Fault> {
-        let mut beside = to_fault(begun(&mut self.beside, &self.rt, self.beside_path.as_str()))?;
-        to_fault(beside.handle.write_all(bytes))?;
+        let mut beside = begun(&mut self.beside, &self.rt, &self.beside_path)?;
+        beside.handle.write_all(bytes)?;
         self.beside = Beside::Begun(beside);
         Ok(())
     }
 
     fn sync_beside(&mut self) -> Result<(), Fault> {
-        let mut beside = to_fault(begun(&mut self.beside, &self.rt, self.beside_path.as_str()))?;
-        to_fault(beside.sync_all())?;
+        let mut beside = begun(&mut self.beside, &self.rt, &self.beside_path)?;
+        beside.sync_all()?;
         self.beside = Beside::Begun(beside);
         Ok(())
     }
@@ -302,7 +283,7 @@ impl Storage for FileStorage {
         let Beside::Begun(beside) = mem::replace(&mut self.beside, Beside::Unknown) else {
             return Err(Fault::System);
         };
-        to_fault(fs::rename(&self.rt, self.beside_path.as_str(), self.path.as_str()))?;
+        fs::rename(&self.rt, &self.beside_path, &self.path)?;
         self.file = beside;
         self.beside = Beside::Blank;
         self.unwritten.clear();
@@ -311,7 +292,7 @@ impl Storage for FileStorage {
     }
 
     fn sync_folder(&mut self) -> Result<(), Fault> {
-        to_fault(sync_folder(&self.rt, self.folder.as_str()))?;
+        sync_folder(&self.rt, &self.folder)?;
         self.condition.placed = true;
         Ok(())
     }

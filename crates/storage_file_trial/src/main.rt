@@ -100,9 +100,7 @@ fn all(rt: &HostRuntime) -> io::Result<()> {
 }
 
 fn main(rt: HostRuntime) -> io::Result<()> {
-    let mut words = env::args(&rt)?;
-    let _program = words.next();
-    if words.next().is_none() {
+    if env::args(&rt)?.nth(1).is_none() {
         return all(&rt);
     }
     match Trial::open(&rt) {

@@ -1,17 +1,12 @@
-use Rattle.std.proofs.Common.{◌≤◌, length, sym, ap, subst, arith, rules}
+use Rattle.std.proofs.Common.{ap, arith, rules}
 use Rattle.frames.specs.Format.{valued}
 use Rattle.frames.specs.Views.{number_of}
 use Rattle.frames.proofs.Room.{then, same, since, length_head, head_rest, value_short}
 use Rattle.frames.proofs.encode.put_valued.Goals as goal
 
-pub returns-in_err-reserve : goal.returns-in_err-reserve
-returns-in_err-reserve c = record { items = search rules; fits = (search rules, value_short c.args.value.now) }
-
-pub put_value-requires : goal.put_value-requires
-put_value-requires c = record {
-  short = subst (λ l. length l ≤ 64) (sym c.bytes-bytes.ensures) (value_short c.args.value.now);
-  room = omega (arith, c.put_head.ensures.len, c.put_head.ensures.room, c.in_ok-reserve.ensures.ok, length_head (number_of c.args.kind) c.args.note.0 c.args.edition.0);
-}
+pub put_value-requires-clause-room : goal.put_value-requires-clause-room
+put_value-requires-clause-room c =
+    omega (arith, c.put_head.ensures.len, c.put_head.ensures.room, c.in_ok-reserve.ensures.ok, length_head (number_of c.args.kind) c.args.note.0 c.args.edition.0)
 
 pub returns : goal.returns
 returns c = record {

@@ -1,9 +1,6 @@
-use Rattle.std.proofs.Common.{sym, ap, ◌∙◌}
-use Rattle.frames.specs.Views.{holds}
-use Rattle.frames.proofs.Fronts.{no_record}
+use Rattle.std.proofs.Common.{rules}
+use Rattle.frames.proofs.Fronts.{record_from}
 use Rattle.frames.proofs.record.first_record.Goals as goal
 
-pub returns-else-may_hold : goal.returns-else-may_hold
-returns-else-may_hold c =
-    no_record c.args.role c.in_ok-front.front c.in_ok-front.ensures
-    (ap (holds c.args.role) (sym c.kind.ensures) ∙ sym c.may_hold.ensures ∙ c.if-may_hold.false)
+pub returns : goal.returns
+returns c = record_from c.args.bytes.now c.args.role (λ x held says. search rules) c.first.result c.filter.result c.first.ensures c.filter.ensures

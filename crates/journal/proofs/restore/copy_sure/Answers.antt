@@ -1,5 +1,4 @@
-use Rattle.std.proofs.Common.{◌≡◌, ℕ, ◌+◌, ◌-◌, ◌≤◌, min, List, [], ◌++◌, length, take, vec_items, sym, ap, ◌∙◌, subst, arith, length-append}
-use Rattle.std.proofs.lemmas.List.{take_at}
+use Rattle.std.proofs.Common.{◌≡◌, ℕ, ◌+◌, ◌-◌, ◌≤◌, min, List, [], ◌++◌, length, take, vec_items, ap, ◌∙◌, subst, arith, length-append}
 use Rattle.protocol_files.specs.Disk.{contents, with_beside}
 use Rattle.journal.proofs.Copies.{window}
 use Rattle.journal.proofs.restore.copy_sure.Goals as goal
@@ -18,30 +17,13 @@ loop-place-preserved g c =
           let h1 = (inv d h size).1 in
           let enough : sure ≤ length bs = omega (arith, size, length-append d.file.synced d.file.pending) in
           let few : c.min-most.result ≤ sure - place = omega (arith, c.min-most.ensures) in
-          let next : c.saturating_add-place.result ≡ min (place + length w) 18446744073709551615 = omega (arith, c.saturating_add-place.ensures, c.len-in-loop-place.ensures, c.read.new.into.ok.0) in
+          let next : c.saturating_add-place.result ≡ min (place + length w) 18446744073709551615 = omega (arith, c.saturating_add-place.ensures, c.len.ensures, c.read.new.into.ok.0) in
           let (low, more) = window bs w place c.min-most.result sure c.saturating_add-place.result enough c.loop-place-test.true c.sure-sure.type_inv few (read.bytes d1 h1) next in (
             low,
             subst (λ (x : List ℕ). g.S.Storage.holds c.write_beside.new.self (with_beside (record { synced = []; pending = x }) d))
-                (ap (λ (x : List ℕ). take place bs ++ x) c.as_slice.ensures.value ∙ more)
+                (ap (λ (x : List ℕ). take place bs ++ x) c.deref.ensures.value ∙ more)
                 (wrote.disk d1 (read.disk d1 h1)),
           ),
       wrote.state ∙ read.state ∙ state,
       wrote.sent ∙ read.sent ∙ sent,
     )
-
-pub returns : goal.returns
-returns g c =
-    let clear = c.in_ok-clear_beside.ensures in
-    let done = c.in_ok-sync_beside.ensures in
-    let (inv, state, sent) = c.loop-place.invariant in
-    record {
-      disk = λ d h.
-          let size = c.sure-sure.ensures d h in
-          let (low, h1) = inv d (clear.disk d h) size in
-          let all : c.loop-place.place ≡ length d.file.synced = omega (arith, c.loop-place-test.false) in
-          subst (λ (x : List ℕ). g.S.Storage.holds c.sync_beside.new.self (with_beside (record { synced = x; pending = [] }) d))
-          (take_at d.file.synced d.file.pending c.loop-place.place (sym all))
-          (done.disk (with_beside (record { synced = []; pending = take c.loop-place.place (contents d.file) }) d) h1);
-      state = done.state ∙ state ∙ clear.state;
-      sent = done.sent ∙ sent ∙ clear.sent;
-    }
