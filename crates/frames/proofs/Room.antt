@@ -4,7 +4,7 @@ use Rattle.std.proofs.Common.{◌≡◌, ℕ, ◌≤◌, List, [], ◌∷◌, �
 use native.Mathlib.Nat.{min-le_left}
 use Rattle.std.specs.declared.alloc.Global.{Global}
 use Rattle.notes.specs.Views.{bytes_of}
-use Rattle.notes.specs.declared.kept.value.Value.{Value}
+use Rattle.notes.specs.declared.value.Value.{Value}
 use Rattle.frames.specs.Format.{be}
 use Rattle.frames.specs.Fronts.{framed}
 use Rattle.frames.specs.Room.{Added}

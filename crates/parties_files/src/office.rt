@@ -20,11 +20,11 @@ use frames::role::Role;
 use journal::opening::Opening;
 use journal::replay::Replay;
 use journal::start::start;
-use notes::ids::{Edition, NoteId, PartyId};
+use notes::ids::{Edition, NoteId};
 use notes::quorum::Quorum;
 use notes::value::Value;
-use parties::message::{Message, Sends};
-use parties::step::OfficeOutcome;
+use parties::message::{Incoming, Sends};
+use parties::step::{OfficeDone, OfficeOutcome};
 use parties_tables::office::Office as Desks;
 use std::alloc::Global;
 use storage::fault::Fault;
@@ -95,9 +95,7 @@ impl Replay for Office {
                 edition,
                 value,
             } => {
-                let Some(value) = Value::new(value) else {
-                    return Err(Fault::System);
-                };
+                let value = Value::new(value).ok_or(Fault::System)?;
                 self.begin_again(note, edition, value)
             }
             Frame::Ended { note, edition } => {
@@ -133,16 +131,11 @@ impl Office {
         ensures did { MatchResult result (λ o. (office_outcome o ≡ (office_writes (desks_of self.old) number.0 (bytes_of value)).outcome) × Recorded (S.Storage.holds store.old) (S.Storage.holds store.new) self.old self.new number.0 (office_writes (desks_of self.old) number.0 (bytes_of value))) (λ _. Failed (S.Storage.holds store.old) (S.Storage.holds store.new) self.old self.new number.0 (office_writes (desks_of self.old) number.0 (bytes_of value))) }
         ensures sent { MatchResult result (λ _. S.Storage.sent store.new ≡ S.Storage.sent store.old ++ parcels self.old.desks.quorum.wardens (office_writes (desks_of self.old) number.0 (bytes_of value)).letters) (λ _. (k : ℕ) × (S.Storage.sent store.new ≡ S.Storage.sent store.old ++ take k (parcels self.old.desks.quorum.wardens (office_writes (desks_of self.old) number.0 (bytes_of value)).letters))) }
     {
-        if !self.up {
+        if !self.up || !store.condition().synced {
             return Err(Fault::System);
         }
-        if !store.condition().synced {
-            return Err(Fault::System);
-        }
-        let Ok(step) = self.desks.write(number, value) else {
-            return Err(Fault::Memory);
-        };
-        let OfficeOutcome::Begun = step.outcome else {
+        let step = self.desks.write(number, value)?;
+        let Ok(OfficeDone::Begun) = step.outcome else {
             return Ok(step.outcome);
         };
         let Ok(()) = self.record_begun(store, number) else {
@@ -160,38 +153,31 @@ impl Office {
     pub fn on<S: Storage>(
         &mut self,
         store: &mut S,
-        from: PartyId,
-        number: NoteId,
-        message: Message,
+        incoming: Incoming,
     ) -> Result<OfficeOutcome, Fault>
-        ensures did { MatchResult result (λ o. (office_outcome o ≡ (office_hears self.old.desks.quorum.wardens self.old.desks.quorum.faults (desks_of self.old) from.0 number.0 (message_of message)).outcome) × Recorded (S.Storage.holds store.old) (S.Storage.holds store.new) self.old self.new number.0 (office_hears self.old.desks.quorum.wardens self.old.desks.quorum.faults (desks_of self.old) from.0 number.0 (message_of message))) (λ _. Failed (S.Storage.holds store.old) (S.Storage.holds store.new) self.old self.new number.0 (office_hears self.old.desks.quorum.wardens self.old.desks.quorum.faults (desks_of self.old) from.0 number.0 (message_of message))) }
+        ensures did { MatchResult result (λ o. (office_outcome o ≡ (office_hears self.old.desks.quorum.wardens self.old.desks.quorum.faults (desks_of self.old) incoming.from.0 incoming.note.0 (message_of incoming.message)).outcome) × Recorded (S.Storage.holds store.old) (S.Storage.holds store.new) self.old self.new incoming.note.0 (office_hears self.old.desks.quorum.wardens self.old.desks.quorum.faults (desks_of self.old) incoming.from.0 incoming.note.0 (message_of incoming.message))) (λ _. Failed (S.Storage.holds store.old) (S.Storage.holds store.new) self.old self.new incoming.note.0 (office_hears self.old.desks.quorum.wardens self.old.desks.quorum.faults (desks_of self.old) incoming.from.0 incoming.note.0 (message_of incoming.message))) }
         ensures sent { S.Storage.sent store.new ≡ S.Storage.sent store.old }
-        ensures runs { OfficeHears self.old.desks.quorum.wardens self.old.desks.quorum.faults (S.Storage.holds store.old) (S.Storage.holds store.new) self.old self.new from.0 number.0 (message_of message) }
+        ensures runs { OfficeHears self.old.desks.quorum.wardens self.old.desks.quorum.faults (S.Storage.holds store.old) (S.Storage.holds store.new) self.old self.new incoming.from.0 incoming.note.0 (message_of incoming.message) }
     {
-        self.receive(store, from, number, message)
+        self.receive(store, incoming)
     }
 
     fn receive<S: Storage>(
         &mut self,
         store: &mut S,
-        from: PartyId,
-        number: NoteId,
-        message: Message,
+        incoming: Incoming,
     ) -> Result<OfficeOutcome, Fault>
-        ensures did { MatchResult result (λ o. (office_outcome o ≡ (office_hears self.old.desks.quorum.wardens self.old.desks.quorum.faults (desks_of self.old) from.0 number.0 (message_of message)).outcome) × Recorded (S.Storage.holds store.old) (S.Storage.holds store.new) self.old self.new number.0 (office_hears self.old.desks.quorum.wardens self.old.desks.quorum.faults (desks_of self.old) from.0 number.0 (message_of message))) (λ _. Failed (S.Storage.holds store.old) (S.Storage.holds store.new) self.old self.new number.0 (office_hears self.old.desks.quorum.wardens self.old.desks.quorum.faults (desks_of self.old) from.0 number.0 (message_of message))) }
+        ensures did { MatchResult result (λ o. (office_outcome o ≡ (office_hears self.old.desks.quorum.wardens self.old.desks.quorum.faults (desks_of self.old) incoming.from.0 incoming.note.0 (message_of incoming.message)).outcome) × Recorded (S.Storage.holds store.old) (S.Storage.holds store.new) self.old self.new incoming.note.0 (office_hears self.old.desks.quorum.wardens self.old.desks.quorum.faults (desks_of self.old) incoming.from.0 incoming.note.0 (message_of incoming.message))) (λ _. Failed (S.Storage.holds store.old) (S.Storage.holds store.new) self.old self.new incoming.note.0 (office_hears self.old.desks.quorum.wardens self.old.desks.quorum.faults (desks_of self.old) incoming.from.0 incoming.note.0 (message_of incoming.message))) }
         ensures sent { S.Storage.sent store.new ≡ S.Storage.sent store.old }
     {
-        if !self.up {
+        if !self.up || !store.condition().synced {
             return Err(Fault::System);
         }
-        if !store.condition().synced {
-            return Err(Fault::System);
-        }
-        let step = self.desks.on(from, number, message);
-        let OfficeOutcome::Ended = step.outcome else {
+        let step = self.desks.on(incoming);
+        let Ok(OfficeDone::Ended) = step.outcome else {
             return Ok(step.outcome);
         };
-        let Ok(()) = self.record_ended(store, number) else {
+        let Ok(()) = self.record_ended(store, incoming.note) else {
             self.up = false;
             return Err(Fault::System);
         };
@@ -207,10 +193,8 @@ impl Office {
     {
         let edition = self.desks.desk(number).now.edition;
         self.encoded.clear();
-        let Ok(()) = put_ended(&mut self.encoded, number, edition) else {
-            return Err(Fault::Memory);
-        };
-        commit(store, self.encoded.as_slice())
+        put_ended(&mut self.encoded, number, edition)?;
+        commit(store, &self.encoded)
     }
 
     // That the present edition of a note has begun is on the file, synced.
@@ -223,25 +207,17 @@ impl Office {
     {
         let note = self.desks.desk(number).now;
         self.encoded.clear();
-        let Ok(()) = put_begun(&mut self.encoded, number, &note) else {
-            return Err(Fault::Memory);
-        };
-        commit(store, self.encoded.as_slice())
+        put_begun(&mut self.encoded, number, &note)?;
+        commit(store, &self.encoded)
     }
 
     // Writes an edition that began before, if it is the next.
     fn begin_again(&mut self, number: NoteId, edition: Edition, value: Value) -> Result<(), Fault>
         ensures { OnOk result (Replays self.old (Begun number.0 (record { edition = edition.0; value = bytes_of value })) self.new) }
     {
-        let Some(next) = self.desks.desk(number).now.edition.next() else {
-            return Ok(());
-        };
-        if !next.is(edition) {
-            return Ok(());
+        if self.desks.desk(number).now.edition.next() == Some(edition) {
+            self.desks.write(number, value)?;
         }
-        match self.desks.write(number, value) {
-            Ok(_) => Ok(()),
-            Err(_) => Err(Fault::Memory),
-        }
+        Ok(())
     }
 }

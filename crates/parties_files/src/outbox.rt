@@ -20,17 +20,13 @@ pub fn settle<S: Storage>(store: &mut S) -> Result<(), Fault>
     ensures sent { S.Storage.sent store.new ≡ S.Storage.sent store.old }
 {
     let known = store.condition();
-    if !known.placed {
-        return Err(Fault::System);
-    }
-    if !known.trusted {
+    if !known.placed || !known.trusted {
         return Err(Fault::System);
     }
     if known.synced {
         return Ok(());
     }
-    store.sync()?;
-    Ok(())
+    store.sync()
 }
 
 /// Sends all of it, in order, or as much as goes out.
@@ -41,8 +37,8 @@ pub fn release<S: Storage>(store: &mut S, outbox: &[Outgoing]) -> Result<(), Fau
     ensures state { S.Storage.state store.new ≡ S.Storage.state store.old }
     ensures sent { MatchResult result (λ _. S.Storage.sent store.new ≡ S.Storage.sent store.old ++ map parcel_of outbox.now) (λ _. (k : ℕ) × (S.Storage.sent store.new ≡ S.Storage.sent store.old ++ map parcel_of (take k outbox.now))) }
 {
-    for i in 0..outbox.len() {
-        store.send(outbox[i])?;
+    for what in outbox {
+        store.send(*what)?;
     }
     Ok(())
 }
@@ -56,9 +52,7 @@ pub fn commit<S: Storage>(store: &mut S, bytes: &[u8]) -> Result<(), Fault>
     if !store.condition().synced {
         return Err(Fault::System);
     }
-    let Ok(()) = store.append(bytes) else {
-        return Err(Fault::Memory);
-    };
+    store.append(bytes)?;
     let Ok(()) = settle(store) else {
         return Err(Fault::System);
     };

@@ -22,11 +22,11 @@ use frames::role::Role;
 use journal::opening::Opening;
 use journal::replay::Replay;
 use journal::start::start;
-use notes::ids::{NoteId, OFFICE, PartyId};
+use notes::ids::{NoteId, OFFICE};
 use notes::note::Note;
 use notes::value::Value;
-use parties::message::{Message, Sends};
-use parties::step::WardenOutcome;
+use parties::message::{Incoming, Message, Sends};
+use parties::step::{WardenDone, WardenOutcome};
 use parties_tables::warden::Warden as Notes;
 use std::alloc::Global;
 use storage::fault::Fault;
@@ -87,45 +87,37 @@ impl Warden {
     pub fn on<S: Storage>(
         &mut self,
         store: &mut S,
-        from: PartyId,
-        number: NoteId,
-        message: Message,
+        incoming: Incoming,
     ) -> Result<WardenOutcome, Fault>
-        ensures did { MatchResult result (λ o. Did (S.Storage.holds store.old) (S.Storage.holds store.new) self.old self.new number.0 (warden_outcome o) (warden_keeps (kept self.old) from.0 number.0 (message_of message))) (λ _. Failed (S.Storage.holds store.old) (S.Storage.holds store.new) self.old self.new) }
+        ensures did { MatchResult result (λ o. Did (S.Storage.holds store.old) (S.Storage.holds store.new) self.old self.new incoming.note.0 (warden_outcome o) (warden_keeps (kept self.old) incoming.from.0 incoming.note.0 (message_of incoming.message))) (λ _. Failed (S.Storage.holds store.old) (S.Storage.holds store.new) self.old self.new) }
         ensures sent { S.Storage.sent store.new ≡ S.Storage.sent store.old }
-        ensures runs { WardenHears (S.Storage.holds store.old) (S.Storage.holds store.new) self.old self.new from.0 number.0 (message_of message) }
+        ensures runs { WardenHears (S.Storage.holds store.old) (S.Storage.holds store.new) self.old self.new incoming.from.0 incoming.note.0 (message_of incoming.message) }
     {
-        self.receive(store, from, number, message)
+        self.receive(store, incoming)
     }
 
     fn receive<S: Storage>(
         &mut self,
         store: &mut S,
-        from: PartyId,
-        number: NoteId,
-        message: Message,
+        incoming: Incoming,
     ) -> Result<WardenOutcome, Fault>
-        ensures did { MatchResult result (λ o. Did (S.Storage.holds store.old) (S.Storage.holds store.new) self.old self.new number.0 (warden_outcome o) (warden_keeps (kept self.old) from.0 number.0 (message_of message))) (λ _. Failed (S.Storage.holds store.old) (S.Storage.holds store.new) self.old self.new) }
+        ensures did { MatchResult result (λ o. Did (S.Storage.holds store.old) (S.Storage.holds store.new) self.old self.new incoming.note.0 (warden_outcome o) (warden_keeps (kept self.old) incoming.from.0 incoming.note.0 (message_of incoming.message))) (λ _. Failed (S.Storage.holds store.old) (S.Storage.holds store.new) self.old self.new) }
         ensures sent { S.Storage.sent store.new ≡ S.Storage.sent store.old }
     {
         if !self.up {
             return Err(Fault::System);
         }
-        let Ok(()) = self.outbox.reserve(1) else {
-            return Err(Fault::Memory);
-        };
-        let Ok(step) = self.notes.on(from, number, message) else {
-            return Err(Fault::Memory);
-        };
-        let WardenOutcome::Taken = step.outcome else {
-            self.answer(number, step.sends);
+        self.outbox.reserve(1)?;
+        let step = self.notes.on(incoming)?;
+        let Ok(WardenDone::Taken) = step.outcome else {
+            self.answer(incoming.note, step.sends);
             return Ok(step.outcome);
         };
-        let Ok(()) = self.write(store, number) else {
+        let Ok(()) = self.write(store, incoming.note) else {
             self.fall();
             return Err(Fault::Memory);
         };
-        self.answer(number, step.sends);
+        self.answer(incoming.note, step.sends);
         Ok(step.outcome)
     }
 
@@ -149,7 +141,7 @@ impl Warden {
             self.fall();
             return Err(Fault::System);
         };
-        let released = release(store, self.outbox.as_slice());
+        let released = release(store, &self.outbox);
         self.outbox.clear();
         released
     }
@@ -165,7 +157,7 @@ impl Warden {
         let note = self.notes.note(number);
         self.encoded.clear();
         put_take(&mut self.encoded, number, &note)?;
-        store.append(self.encoded.as_slice())
+        store.append(&self.encoded)
     }
 
     // What it sends waits in the outbox, in which there is room.
@@ -210,13 +202,12 @@ impl Replay for Warden {
         else {
             return Ok(());
         };
-        let Some(value) = Value::new(value) else {
-            return Err(Fault::System);
-        };
-        let taken = Message::Take(Note { edition, value });
-        match self.notes.on(PartyId(OFFICE), note, taken) {
-            Ok(_) => Ok(()),
-            Err(_) => Err(Fault::Memory),
-        }
+        let value = Value::new(value).ok_or(Fault::System)?;
+        self.notes.on(Incoming {
+            from: OFFICE,
+            note,
+            message: Message::Take(Note { edition, value }),
+        })?;
+        Ok(())
     }
 }

@@ -1,6 +1,6 @@
 // A storage over a file in the working folder. Each call prints what came of it; a line that cannot be printed is missed by who
 // compares what was printed.
-use notes::ids::{Edition, NoteId, OFFICE, PartyId};
+use notes::ids::{Edition, NoteId, OFFICE};
 use parties::message::Message;
 use std::{fs, io};
 use storage::fault::Fault;
@@ -68,7 +68,7 @@ impl Trial {
             return;
         }
         let done = self.store.send(Outgoing {
-            to: PartyId(OFFICE),
+            to: OFFICE,
             note: NoteId(0),
             message: Message::Took(Edition(edition)),
         });

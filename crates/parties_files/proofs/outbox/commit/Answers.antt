@@ -9,10 +9,10 @@ first d bytes k none =
     ap (λ (p : List ℕ). record { file = record { synced = d.file.synced; pending = take k (p ++ bytes) }; beside = d.beside; former = d.former }) none
     ∙ ap (λ (p : List ℕ). record { file = record { synced = d.file.synced; pending = p ++ take k bytes }; beside = d.beside; former = d.former }) (sym none)
 
-pub returns-in_default-settle : goal.returns-in_default-settle
-returns-in_default-settle g c =
-    let wrote = c.in-Ok.ensures in
-    let fails = c.in_default-settle.ensures in
+pub returns-in_default : goal.returns-in_default
+returns-in_default g c =
+    let wrote = c.in_ok-append.ensures in
+    let fails = c.in_default.ensures in
     let bytes = c.args.bytes.now in
     let synced = synced_of c.condition.result (g.S.Storage.state c.args.store.now) c.if-not-condition.false c.condition.ensures in
     record {

@@ -5,15 +5,15 @@ use Rattle.storage.specs.Memories.{parcel_of}
 use Rattle.storage.specs.declared.outgoing.Outgoing.{Outgoing}
 use Rattle.parties_files.proofs.outbox.release.Goals as goal
 
-pub loop-i-preserved : goal.loop-i-preserved
-loop-i-preserved g c =
-    let (stays, state, sent) = c.loop-i.invariant in
+pub loop-what-preserved : goal.loop-what-preserved
+loop-what-preserved g c =
+    let (stays, state, sent) = c.loop-what.invariant in
     let done = c.in_ok-send.ensures in
-    let x = c.index-outbox-i.result in
+    let x = c.what-item.result in
     let before = g.S.Storage.sent c.args.store.now in
-    let front = map parcel_of (take c.loop-i.i c.args.outbox.now) in
-    let more : front ++ (parcel_of x ∷ []) ≡ map parcel_of (take (c.loop-i.i + 1) c.args.outbox.now) =
-    ap (λ (y : Outgoing). front ++ (parcel_of y ∷ [])) c.index-outbox-i.is ∙ sym (map_more parcel_of c.args.outbox.now c.loop-i.i x c.loop-i-test.true) in (
+    let front = map parcel_of (take c.loop-what.what-index c.args.outbox.now) in
+    let more : front ++ (parcel_of x ∷ []) ≡ map parcel_of (take (c.loop-what.what-index + 1) c.args.outbox.now) =
+    ap (λ (y : Outgoing). front ++ (parcel_of y ∷ [])) c.what-item.is ∙ sym (map_more parcel_of c.args.outbox.now c.loop-what.what-index x c.loop-what-test.true) in (
       λ d h. done.disk d (stays d h),
       done.state ∙ state,
       done.sent ∙ ap (λ (s : List Parcel). s ++ (parcel_of x ∷ [])) sent ∙ append_assoc before front (parcel_of x ∷ []) ∙ ap (λ (s : List Parcel). before ++ s) more,
@@ -21,5 +21,5 @@ loop-i-preserved g c =
 
 pub returns : goal.returns
 returns g c =
-    let (stays, state, sent) = c.loop-i.invariant in
-    record { disk = stays; state = state; sent = sent ∙ ap (λ xs. g.S.Storage.sent c.args.store.now ++ map parcel_of xs) (take_all c.loop-i.i c.args.outbox.now c.loop-i-test.false) }
+    let (stays, state, sent) = c.loop-what.invariant in
+    record { disk = stays; state = state; sent = sent ∙ ap (λ xs. g.S.Storage.sent c.args.store.now ++ map parcel_of xs) (take_all c.loop-what.what-index c.args.outbox.now c.loop-what-test.false) }

@@ -4,6 +4,3 @@ use Rattle.parties_files.proofs.outbox.settle.Goals as goal
 
 pub returns-then-not-known : goal.returns-then-not-known
 returns-then-not-known g c = record { disk = λ d h. (d, h, shortened_none d); state = tt; sent = refl }
-
-pub returns-then-not-known-2 : goal.returns-then-not-known-2
-returns-then-not-known-2 g c = record { disk = λ d h. (d, h, shortened_none d); state = tt; sent = refl }

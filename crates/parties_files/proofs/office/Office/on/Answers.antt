@@ -9,5 +9,5 @@ returns g c =
     record {
       did = done.did;
       sent = done.sent;
-      runs = hears quorum.wardens quorum.faults quorum.few (g.S.Storage.holds c.args.store.now) (g.S.Storage.holds c.receive.new.store) c.args.self.now c.receive.new.self c.args.from.0 c.args.number.0 (message_of c.args.message) c.receive.result done.did;
+      runs = hears quorum.wardens quorum.faults quorum.few (g.S.Storage.holds c.args.store.now) (g.S.Storage.holds c.receive.new.store) c.args.self.now c.receive.new.self c.args.incoming.from.0 c.args.incoming.note.0 (message_of c.args.incoming.message) c.receive.result done.did;
     }

@@ -7,7 +7,7 @@ use Rattle.parties_files.proofs.office.Office.record_begun.Goals as goal
 
 pub returns : goal.returns
 returns g c =
-    let written = c.as_slice.ensures.value ∙ c.in-Ok.ensures.items ∙ ap (λ (old : List ℕ). old ++ encode (Begun c.args.number.0 (note_of c.desk.result.now))) c.clear.ensures.items ∙ ap (λ (d : Desk). encode (Begun c.args.number.0 d.now)) c.desk.ensures in
+    let written = c.deref.ensures.value ∙ c.in_ok-put_begun.ensures.items ∙ ap (λ (old : List ℕ). old ++ encode (Begun c.args.number.0 (note_of c.desk.result.now))) c.clear.ensures.items ∙ ap (λ (d : Desk). encode (Begun c.args.number.0 d.now)) c.desk.ensures in
     record {
       desks = refl;
       up = refl;

@@ -6,7 +6,7 @@ use Rattle.parties_files.proofs.office.Office.record_ended.Goals as goal
 
 pub returns : goal.returns
 returns g c =
-    let written = c.as_slice.ensures.value ∙ c.in-Ok.ensures.items ∙ ap (λ (old : List ℕ). old ++ encode (Ended c.args.number.0 c.desk.result.now.edition.0)) c.clear.ensures.items ∙ ap (λ (d : Desk). encode (Ended c.args.number.0 d.now.edition)) c.desk.ensures in
+    let written = c.deref.ensures.value ∙ c.in_ok-put_ended.ensures.items ∙ ap (λ (old : List ℕ). old ++ encode (Ended c.args.number.0 c.desk.result.now.edition.0)) c.clear.ensures.items ∙ ap (λ (d : Desk). encode (Ended c.args.number.0 d.now.edition)) c.desk.ensures in
     record {
       desks = refl;
       up = refl;

@@ -7,5 +7,5 @@ returns g c =
     record {
       did = c.receive.ensures.did;
       sent = c.receive.ensures.sent;
-      runs = hears (g.S.Storage.holds c.args.store.now) (g.S.Storage.holds c.receive.new.store) c.args.self.now c.receive.new.self c.args.from.0 c.args.number.0 (message_of c.args.message) c.receive.result c.receive.ensures.did;
+      runs = hears (g.S.Storage.holds c.args.store.now) (g.S.Storage.holds c.receive.new.store) c.args.self.now c.receive.new.self c.args.incoming.from.0 c.args.incoming.note.0 (message_of c.args.incoming.message) c.receive.result c.receive.ensures.did;
     }
