@@ -6,6 +6,7 @@ pub mod kept;
 pub mod note;
 pub mod quorum;
 pub mod round;
+pub mod text;
 pub mod value;
 pub mod warden_id;
 pub mod warden_set;

@@ -1,6 +1,7 @@
 // The number of a warden.
 ghost use Rattle.std.specs.Prelude.{◌≡◌, ◌≤◌, MatchOption};
 
+use crate::ids::PartyId;
 pub use crate::kept::warden_id::WardenId;
 
 impl WardenId {
@@ -13,5 +14,13 @@ impl WardenId {
         } else {
             None
         }
+    }
+}
+
+impl From<WardenId> for PartyId {
+    ghost from_gives = { λ warden party. party.0 ≡ warden.index };
+
+    fn from(warden: WardenId) -> PartyId {
+        PartyId(u32::from(warden.index))
     }
 }
