@@ -67,10 +67,10 @@ impl Cast {
     pub fn written(&self, note: NoteId) -> Note
         ensures { note_of result ≡ ((office_of self.now.office).desks.at note.0).now }
     {
-        match self.office.desks.get(note) {
-            Some(desk) => desk.now,
-            None => Note::none(),
-        }
+        self.office
+            .desks
+            .get(note)
+            .map_or(Note::none(), |desk| desk.now)
     }
 
     /// Whether the warden takes part.

@@ -12,7 +12,6 @@ pub mod readers;
 pub mod rehearsal;
 pub mod script_error;
 pub mod stage;
-pub mod text;
 pub mod transcript;
 pub mod way;
 pub mod words;

@@ -8,6 +8,7 @@ use crate::party::Party;
 use notes::ids::{NoteId, PartyId};
 use parties::message::{Message, Sends};
 use std::alloc::{AllocError, Global};
+use std::fmt;
 
 /// A message on its way, about a note. Its number is its place among all that were ever sent.
 #[derive(Clone, Copy)]
@@ -39,7 +40,24 @@ impl Which {
     {
         match self {
             Which::Number(number) => packet.number == *number,
-            Which::Between(from, to) => packet.from.0 == from.id().0 && packet.to.0 == to.id().0,
+            Which::Between(from, to) => {
+                packet.from.0 == PartyId::from(*from).0 && packet.to.0 == PartyId::from(*to).0
+            }
+        }
+    }
+}
+
+impl fmt::Display for Packet {
+    fn fmt<W: fmt::Write>(&self, f: &mut fmt::Formatter<W>) -> fmt::Result {
+        write!(f, "{}: {} -> {}: ", self.number, self.from, self.to)?;
+        let about = self.note;
+        match self.message {
+            Message::Take(note) => write!(f, "take note {about} edition {note}"),
+            Message::Took(edition) => write!(f, "took note {about} edition {edition}"),
+            Message::Ask(round) => write!(f, "ask note {about} round {round}"),
+            Message::Told(round, note) => {
+                write!(f, "told note {about} round {round} edition {note}")
+            }
         }
     }
 }
@@ -114,12 +132,7 @@ impl Way {
     fn find(&self, which: Which) -> Option<usize>
         ensures { MatchOption result (Absent which self.now.packets.items) (λ i. First which self.now.packets.items i) }
     {
-        for (place, packet) in self.packets.iter().enumerate() {
-            if which.means(packet) {
-                return Some(place);
-            }
-        }
-        None
+        self.packets.iter().position(|packet| which.means(packet))
     }
 
     /// Takes the first message, if there is one.
@@ -136,9 +149,7 @@ impl Way {
     pub fn take(&mut self, which: Which) -> Option<Packet>
         ensures { MatchOption result (Absent which self.old.packets.items × (self.new ≡ self.old)) (λ p. (k : Picked which self.old.packets.items p) × (self.new.packets.items ≡ others k)) }
     {
-        let Some(place) = self.find(which) else {
-            return None;
-        };
+        let place = self.find(which)?;
         Some(self.packets.remove(place))
     }
 
