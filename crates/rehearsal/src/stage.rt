@@ -14,7 +14,7 @@ ghost use Rattle.rehearsal.specs.Parties.{party_number};
 ghost use Rattle.rehearsal.specs.Casts.{numbers_by, numbers_of};
 ghost use Rattle.rehearsal.specs.Seeds.{answer_by};
 ghost use Rattle.rehearsal.specs.Ways.{packets_of};
-ghost use Rattle.rehearsal.specs.Scenes.{scene_of, wardens_of, posted, by_office, Stays, OfficeMade, WardenMade, ReaderMade, ticked, at_office, at_warden, at_reader, Arrived, sending, Lied, IfTurnedAway};
+ghost use Rattle.rehearsal.specs.Scenes.{scene_of, wardens_of, posted, by_office, Stays, OfficeMade, WardenMade, ReaderMade, ticked, at_office, at_warden, at_reader, Arrived, sending, Lied, Answered, IfTurnedAway};
 
 use crate::cast::Cast;
 use crate::command::Saying;
@@ -83,9 +83,7 @@ impl Stage {
         ensures stays { Stays self.old self.new }
         ensures scene { OnOk result (scene_of self.new ≡ by_office (wardens_of self.old) (office_ticks (scene_of self.old).office) (scene_of self.old)) }
     {
-        let Ok(letters) = self.cast.office.tick(self.heap) else {
-            return Err(AllocError);
-        };
+        let letters = self.cast.office.tick(self.heap).map_err(|_| AllocError)?;
         self.post(letters.as_slice())
     }
 
@@ -234,6 +232,7 @@ impl Stage {
     pub fn lie(&mut self, packet: Packet) -> Result<(), AllocError>
         ensures cast { self.new.cast ≡ self.old.cast }
         ensures lied { OnOk result (Lied (scene_of self.old) (scene_of self.new) packet) }
+        ensures answered { OnOk result (Answered self.old self.new packet) }
     {
         let Some(message) = self.made_up(packet.message) else {
             return Ok(());
