@@ -1,3 +1,4 @@
+mod Printed
 mod Words
 mod Places
 mod Turns

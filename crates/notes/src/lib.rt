@@ -5,6 +5,7 @@ pub mod ids;
 pub mod note;
 pub mod quorum;
 pub mod round;
+pub mod text;
 pub mod value;
 pub mod warden_id;
 pub mod warden_set;

@@ -1,6 +1,8 @@
 // The number of a warden.
 ghost use Rattle.std.specs.Prelude.{◌≡◌, ◌<◌, ◌≤◌, MatchOption};
 
+use crate::ids::PartyId;
+
 /// Which of the wardens, of whom there are at most 63.
 #[derive(Clone, Copy, PartialEq, Eq, PartialOrd, Ord, Debug)]
 pub struct WardenId {
@@ -18,5 +20,13 @@ impl WardenId {
         } else {
             None
         }
+    }
+}
+
+impl From<WardenId> for PartyId {
+    ghost from_gives = { λ warden party. party.0 ≡ warden.index };
+
+    fn from(warden: WardenId) -> PartyId {
+        PartyId(u32::from(warden.index))
     }
 }

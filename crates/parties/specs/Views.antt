@@ -55,13 +55,22 @@ reader_done reader_case.Undecided = readers.undecided
 reader_done (reader_case.Read x) = readers.read (note_of x)
 reader_done reader_case.Unsure = readers.unsure
 
-abbrev pub warden_outcome : Result WardenDone Refusal → steps.Outcome wardens.WardenDone
+abbrev pub WardenOutcome : Type 0
+WardenOutcome = Result WardenDone Refusal
+
+abbrev pub OfficeOutcome : Type 0
+OfficeOutcome = Result OfficeDone Refusal
+
+abbrev pub ReaderOutcome : Type 0
+ReaderOutcome = Result ReaderDone Refusal
+
+abbrev pub warden_outcome : WardenOutcome → steps.Outcome wardens.WardenDone
 warden_outcome = outcome_of warden_done
 
-abbrev pub office_outcome : Result OfficeDone Refusal → steps.Outcome offices.OfficeDone
+abbrev pub office_outcome : OfficeOutcome → steps.Outcome offices.OfficeDone
 office_outcome = outcome_of office_done
 
-abbrev pub reader_outcome : Result ReaderDone Refusal → steps.Outcome readers.ReaderDone
+abbrev pub reader_outcome : ReaderOutcome → steps.Outcome readers.ReaderDone
 reader_outcome = outcome_of reader_done
 
 -- WHAT IS SENT

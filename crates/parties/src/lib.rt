@@ -7,3 +7,4 @@ pub mod reader;
 pub mod refusal;
 pub mod slot;
 pub mod step;
+pub mod text;

@@ -2,9 +2,7 @@
 -- Assumes nothing.
 use Rattle.std.proofs.Common.{◌≡◌, ℕ, ◌*◌, ◌<◌, Bool, true, false, ◌⊎◌, List, take, Ok, Err, MatchBool, Result, sym, ap, ◌∙◌, subst, inl, inr, ⊎_elim, MatchResult}
 use Rattle.protocol.specs.Message.{Message}
-use Rattle.parties.specs.Views.{office_outcome}
-use Rattle.parties.specs.declared.step.OfficeDone.{OfficeDone}
-use Rattle.parties.specs.declared.refusal.Refusal.{Refusal}
+use Rattle.parties.specs.Views.{OfficeOutcome, office_outcome}
 use Rattle.protocol_tables.specs.Office as rules
 use Rattle.protocol_tables.specs.Office.{OfficeStep, post, office_writes, office_hears}
 use Rattle.frames.specs.Journal.{Splits, encode_all}
@@ -61,7 +59,7 @@ module _ (n f : ℕ) (least : 4 * f < n) (P Q : Disk → Type 0) (w v : Office) 
               (office_write_stops_on n f liar s least run k x j (desks_of v) fits (ap (λ (c : Node rules.Office). c.up) is ∙ halt.up)),
         )
 
-    pub writes : (r : Result (Result OfficeDone Refusal) Fault) → MatchResult r (λ o. (office_outcome o ≡ step.outcome) × Recorded P Q w v k step) (λ _. Failed P Q w v k step) →
+    pub writes : (r : Result OfficeOutcome Fault) → MatchResult r (λ o. (office_outcome o ≡ step.outcome) × Recorded P Q w v k step) (λ _. Failed P Q w v k step) →
         MatchResult r (λ _. OfficeRuns n f P Q w v (post n step.letters)) (λ _. OfficeRuns n f P Q w v (λ bag. bag) ⊎ OfficeRuns n f P Q w v (post n step.letters))
     writes (Ok o) (_, done) = written_on done
     writes (Err _) (same stays) = inl (same_on stays)
@@ -94,7 +92,7 @@ module _ (n f : ℕ) (least : 4 * f < n) (P Q : Disk → Type 0) (w v : Office) 
               (office_hear_stops_on n f liar s least run from k m (ap (λ (c : Node rules.Office). c.up) is ∙ halt.up) at j (desks_of v)),
         )
 
-    pub hears : (r : Result (Result OfficeDone Refusal) Fault) → MatchResult r (λ o. (office_outcome o ≡ heard.outcome) × Recorded P Q w v k heard) (λ _. Failed P Q w v k heard) → OfficeHears n f P Q w v from k m
+    pub hears : (r : Result OfficeOutcome Fault) → MatchResult r (λ o. (office_outcome o ≡ heard.outcome) × Recorded P Q w v k heard) (λ _. Failed P Q w v k heard) → OfficeHears n f P Q w v from k m
     hears (Ok o) (_, done) = heard_on done
     hears (Err _) (same stays) = λ d h liar s run is at. same_on stays d h liar s run is
     hears (Err _) (stopped halt) = halted_on halt

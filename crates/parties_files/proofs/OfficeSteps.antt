@@ -1,6 +1,6 @@
 -- A step of the office, with its file.
 -- Assumes nothing.
-use Rattle.std.proofs.Common.{Ok, Err, Result, ◌≡◌, ℕ, Bool, true, false, ◌||◌, ltb, leb, List, [], ◌∷◌, ◌++◌, sym, refl, ap, ◌∙◌, append-nil}
+use Rattle.std.proofs.Common.{Ok, Err, ◌≡◌, ℕ, Bool, true, false, ◌||◌, ltb, leb, List, [], ◌∷◌, ◌++◌, sym, refl, ap, ◌∙◌, append-nil}
 use borrow.Author.Tests.{clash}
 use Rattle.std.proofs.lemmas.Bool.{cond_both}
 use Rattle.register.specs.Count.{count}
@@ -8,10 +8,8 @@ use Rattle.register.specs.Rule.{quorum}
 use Rattle.protocol.specs.Message.{Message, Take, Took, Ask, Told}
 use Rattle.protocol.specs.Step.{Step, Refused, quiet, refuse}
 use Rattle.protocol.specs.Office.{OfficeDone, ended, counted, Desk, last_edition, begin_writing, acknowledge, close, settle, awaits_took, took_on}
-use Rattle.parties.specs.Views.{office_outcome}
-use Rattle.parties.specs.declared.step.OfficeDone.{OfficeDone as Came}
+use Rattle.parties.specs.Views.{OfficeOutcome, office_outcome}
 use Rattle.parties.specs.declared.step.OfficeDone.TheVariants as outcomes
-use Rattle.parties.specs.declared.refusal.Refusal.{Refusal}
 use Rattle.protocol_tables.specs.Keep.{room}
 use Rattle.protocol_tables.specs.Office.{Office, OfficeStep, begins, ends, leave, keep_writing, office_writes, keep_counting, office_hears}
 use Rattle.protocol_tables.proofs.Orders.{started}
@@ -59,7 +57,7 @@ hears_begin_nothing n f o from k (Ask r) = refl
 hears_begin_nothing n f o from k (Told r x) = refl
 
 -- by what came of it
-pub not_begun : (o : Result Came Refusal) → (o ≡ Ok outcomes.Begun → ⊥) → begins (office_outcome o) ≡ false
+pub not_begun : (o : OfficeOutcome) → (o ≡ Ok outcomes.Begun → ⊥) → begins (office_outcome o) ≡ false
 not_begun (Ok outcomes.Begun) other = absurd (other refl)
 not_begun (Ok outcomes.Resent) other = refl
 not_begun (Ok outcomes.NoWriting) other = refl
@@ -67,7 +65,7 @@ not_begun (Ok outcomes.Counted) other = refl
 not_begun (Ok outcomes.Ended) other = refl
 not_begun (Err r) other = refl
 
-pub not_ended : (o : Result Came Refusal) → (o ≡ Ok outcomes.Ended → ⊥) → ends (office_outcome o) ≡ false
+pub not_ended : (o : OfficeOutcome) → (o ≡ Ok outcomes.Ended → ⊥) → ends (office_outcome o) ≡ false
 not_ended (Ok outcomes.Begun) other = refl
 not_ended (Ok outcomes.Resent) other = refl
 not_ended (Ok outcomes.NoWriting) other = refl

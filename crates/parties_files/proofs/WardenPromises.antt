@@ -3,9 +3,7 @@
 use Rattle.std.proofs.Common.{◌≡◌, ℕ, ◌*◌, ◌<◌, Bool, true, false, ◌⊎◌, List, [], map, Ok, Err, MatchBool, Result, sym, ap, ◌∙◌, subst, inl, inr, ⊎_elim, MatchResult}
 use mathlib.Core.List.{Memᴰ}
 use Rattle.protocol.specs.Message.{Message, Packet}
-use Rattle.parties.specs.Views.{warden_outcome}
-use Rattle.parties.specs.declared.step.WardenDone.{WardenDone}
-use Rattle.parties.specs.declared.refusal.Refusal.{Refusal}
+use Rattle.parties.specs.Views.{WardenOutcome, warden_outcome}
 use Rattle.protocol_tables.specs.Warden.{warden_keeps}
 use Rattle.frames.specs.Journal.{Splits}
 use Rattle.frames.specs.declared.role.Role.TheVariants as roles
@@ -51,7 +49,7 @@ module _ (P Q : Disk → Type 0) (w v : Warden) where
         subst (λ (c : Node rules.Warden). Goes (flushed c) c.memory.outbox → Goes (node_of i v (sync d)) (outbox_of i w)) (sym is) (subst (λ (c : Node rules.Warden). Goes c (outbox_of i w)) (sym same))
         (warden_flushes_on n f liar s i least run below own (ap (λ (c : Node rules.Warden). c.up) is ∙ up))
 
-  pub hears : (from k : ℕ) (m : Message) (r : Result (Result WardenDone Refusal) Fault) → MatchResult r (λ o. Did P Q w v k (warden_outcome o) (warden_keeps (kept w) from k m)) (λ _. Failed P Q w v) → WardenHears P Q w v from k m
+  pub hears : (from k : ℕ) (m : Message) (r : Result WardenOutcome Fault) → MatchResult r (λ o. Did P Q w v k (warden_outcome o) (warden_keeps (kept w) from k m)) (λ _. Failed P Q w v) → WardenHears P Q w v from k m
   hears from k m (Ok o) did d h n f liar s i least run below own is at =
       let (e, q, same) = did.node d h in
       (e, q, stepped_on d n f liar s i least run below own is from k m e did.up (same n i) at)

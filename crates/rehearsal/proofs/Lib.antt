@@ -1,7 +1,6 @@
 mod Picks
 mod Sends
 mod Numbers
-mod Hex
 mod Places
 mod Heard
 mod Outcomes

@@ -1,6 +1,6 @@
 -- What stands at a place of a list, seen through a function.
 -- Assumes nothing.
-use Rattle.std.proofs.Common.{◌≡◌, ℕ, zero, suc, ◌+◌, ◌<◌, List, [], ◌∷◌, ◌++◌, map, length, get_or, set, replicate, sym, refl, ap, ◌∙◌, ⊎_elim, add-one, arith}
+use Rattle.std.proofs.Common.{◌≡◌, ℕ, zero, suc, ◌+◌, ◌<◌, List, [], ◌∷◌, ◌++◌, map, length, get_or, set, replicate, sym, refl, ap, ◌∙◌, ⊎_elim, add-one}
 use mathlib.Core.Path.{fun_ext}
 use lib.ListN.{length-map}
 use Rattle.std.proofs.lemmas.List.{get_or-set_same, get_or-set_other, map-set, get_or-map, map-append}
@@ -21,36 +21,9 @@ module _ {A B : Type 0} (f : A → B) where
   pub set_put : (xs : List A) (i : ℕ) (x : A) (d : B) → i < length xs → ◌≡◌ {A = ℕ → B} (λ j. get_or (map f (set xs i x)) j d) (put i (f x) (λ j. get_or (map f xs) j d))
   set_put xs i x d l = fun_ext (map_put xs i x d l)
 
-  -- what is put is what was there
-  map_same : (xs : List A) (i : ℕ) (x : A) (d : B) → i < length xs → f x ≡ get_or (map f xs) i d → (j : ℕ) → get_or (map f (set xs i x)) j d ≡ get_or (map f xs) j d
-  map_same xs i x d l e j = rw (map-set f xs i x) (⊎_elim same other (cases_eq j i))
-    where
-      same : j ≡ i → get_or (set (map f xs) i (f x)) j d ≡ get_or (map f xs) j d
-      same at = let l : i < length (map f xs) = rw (length-map xs f) l in rw (at, get_or-set_same) e
-
-      other : (j ≡ i → ⊥) → get_or (set (map f xs) i (f x)) j d ≡ get_or (map f xs) j d
-      other apart = get_or-set_other (map f xs) i j (f x) d apart
-
-  pub set_same : (xs : List A) (i : ℕ) (x : A) (d : B) → i < length xs → f x ≡ get_or (map f xs) i d → ◌≡◌ {A = ℕ → B} (λ j. get_or (map f (set xs i x)) j d) (λ j. get_or (map f xs) j d)
-  set_same xs i x d l e = fun_ext (map_same xs i x d l e)
-
-  -- the list of one element only
-  map_all : (a : A) (d : B) → f a ≡ d → (n j : ℕ) → get_or (map f (replicate n a)) j d ≡ d
-  map_all a d e zero j = refl
-  map_all a d e (suc n) zero = e
-  map_all a d e (suc n) (suc j) = map_all a d e n j
-
-  pub all_same : (a : A) (d : B) (n : ℕ) → f a ≡ d → ◌≡◌ {A = ℕ → B} (λ j. get_or (map f (replicate n a)) j d) (λ j. d)
-  all_same a d n e = fun_ext (map_all a d e n)
-
   -- what is read
   pub read_place : (xs : List A) (i : ℕ) (x : A) (d : B) → i < length xs → x ≡ get_or xs i x → f x ≡ get_or (map f xs) i d
   read_place xs i x d l e = ap f e ∙ sym (get_or-map f xs i x d l)
-
-  pub within_same : (a : A) (d : B) (n j : ℕ) → j < n → get_or (map f (replicate n a)) j d ≡ f a
-  within_same a d zero j l = absurd (omega arith)
-  within_same a d (suc n) zero l = refl
-  within_same a d (suc n) (suc j) l = within_same a d n j (omega arith)
 
   -- a list in which all are seen as b, and one more
   pub more_same : (xs : List A) (x : A) (b : B) (n : ℕ) → map f xs ≡ replicate n b → f x ≡ b → map f (xs ++ (x ∷ [])) ≡ replicate (n + 1) b

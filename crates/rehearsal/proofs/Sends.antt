@@ -1,17 +1,13 @@
 -- One packet more, to each of the wardens in turn; one letter more of the office.
 -- Assumes nothing.
-use Rattle.std.proofs.Common.{◌≡◌, ℕ, ◌+◌, ◌<◌, List, [], ◌∷◌, ◌++◌, map, length, get_or, take, vec_items, vec_len, sym, ap, ◌∙◌, append_assoc, append-nil, add-one, take-suc}
+use Rattle.std.proofs.Common.{◌≡◌, ℕ, ◌+◌, ◌<◌, List, [], ◌∷◌, ◌++◌, map, length, get_or, take, sym, ap, ◌∙◌, append_assoc, append-nil, add-one, take-suc}
 use Rattle.std.proofs.lemmas.List.{map-append}
 use Rattle.protocol.specs.Message.{office, Packet, to_each, packets}
 use Rattle.protocol_tables.specs.Office.{Letter}
 use Rattle.parties.specs.Views.{sends_of}
-use Rattle.parties_tables.specs.Offices.{letter_of, office_of}
+use Rattle.parties_tables.specs.Offices.{letter_of}
 use Rattle.parties_tables.specs.declared.office.Letter.{Letter as CodeLetter}
-use Rattle.rehearsal.specs.Casts.{keeps_of, readers_of, numbers_of}
-use Rattle.rehearsal.specs.Ways.{packets_of}
-use Rattle.rehearsal.specs.Scenes.{Scene, scene_of, wardens_of, posted, Stays}
-use Rattle.rehearsal.specs.declared.cast.Cast.{Cast}
-use Rattle.rehearsal.specs.declared.stage.Stage.{Stage}
+use Rattle.rehearsal.specs.Scenes.{posted}
 
 pub each_none : (old : List Packet) (g : ℕ → Packet) → old ≡ old ++ to_each 0 g
 unfolding to_each
@@ -38,19 +34,3 @@ post_more n m old now new ls i x l at is before after =
 
     whole : posted n (map letter_of (take (i + 1) ls)) ≡ posted n (map letter_of (take i ls)) ++ last
     whole = ap (λ (xs : List CodeLetter). posted n (map letter_of xs)) (longer ∙ ap (λ (y : CodeLetter). take i ls ++ (y ∷ [])) (sym at)) ∙ (ap (posted n) (map-append letter_of (take i ls) (x ∷ [])) ∙ posted_more n (map letter_of (take i ls)) (letter_of x))
-
--- what is on its way is more, and nothing else has changed
-pub stays_by : (s t : Stage) → t.cast ≡ s.cast → t.seed ≡ s.seed → Stays s t
-stays_by s t e f =
-    record {
-      numbers_are = ap (λ (c : Cast). numbers_of c.readers) e;
-      quorum_is = ap (λ (c : Cast). c.office.quorum) e;
-      wardens_are = ap (λ (c : Cast). vec_len c.wardens) e;
-      liars_is = ap (λ (c : Cast). c.liars) e;
-      seed_is = f;
-    }
-
-pub scene_by : (s t : Stage) (ls ms : List Letter) → t.cast ≡ s.cast → ls ≡ ms → packets_of t.way ≡ packets_of s.way ++ posted (wardens_of s) ls → ◌≡◌ {A = Scene} (scene_of t) (record { office = (scene_of s).office; warden = (scene_of s).warden; reader = (scene_of s).reader; on_way = packets_of s.way ++ posted (wardens_of s) ms })
-scene_by s t ls ms e is more =
-    let way = more ∙ ap (λ (l : List Letter). packets_of s.way ++ posted (wardens_of s) l) is in
-    λ i. record { office = office_of (e i).office; warden = keeps_of (vec_items (e i).wardens); reader = readers_of (e i).readers; on_way = way i }

@@ -1,6 +1,6 @@
 pub mod Parties
 pub mod Ways
-pub mod Words
 pub mod Seeds
+pub mod Words
 pub mod Casts
 pub mod Scenes

@@ -1,6 +1,6 @@
 -- The parties and what is on its way between them, as the rules have it, and how a step changes that.
 -- Assumes nothing.
-use Rattle.std.specs.Prelude.{◌≡◌, ℕ, ◌+◌, ◌<◌, ◌≤◌, true, false, ◌⊎◌, List, [], ◌∷◌, ◌++◌, Ok, Err, vec_items, vec_len, Result}
+use Rattle.std.specs.Prelude.{◌≡◌, ℕ, ◌+◌, ◌<◌, ◌≤◌, true, false, ◌⊎◌, List, [], ◌∷◌, ◌++◌, Ok, Err, vec_items, vec_len, Result, MatchOption, option_and_then}
 use Rattle.register.specs.Count.{put}
 use Rattle.register.specs.Note.{Note}
 use Rattle.notes.specs.Views.{members}
@@ -13,12 +13,10 @@ use Rattle.protocol_tables.specs.Keep.{Keep}
 use Rattle.protocol_tables.specs.Warden.{warden_keeps}
 use Rattle.protocol_tables.specs.Office as offices
 use Rattle.protocol_tables.specs.Office.{Letter, OfficeStep, office_hears}
-use Rattle.parties.specs.Views.{message_of, office_outcome, warden_outcome, reader_outcome}
-use Rattle.parties.specs.declared.step.OfficeOutcome.{OfficeOutcome}
-use Rattle.parties.specs.declared.step.WardenOutcome.{WardenOutcome}
-use Rattle.parties.specs.declared.step.ReaderOutcome.{ReaderOutcome}
+use Rattle.parties.specs.Views.{message_of, OfficeOutcome, WardenOutcome, ReaderOutcome, office_outcome, warden_outcome, reader_outcome}
 use Rattle.parties_tables.specs.Offices.{office_of}
 use Rattle.rehearsal.specs.Casts.{keeps_of, readers_of, numbers_of}
+use Rattle.rehearsal.specs.Seeds.{answer_by}
 use Rattle.rehearsal.specs.Ways.{packets_of}
 use Rattle.rehearsal.specs.declared.failure.Failure.{Failure}
 use Rattle.rehearsal.specs.declared.failure.Failure.TheVariants.{Script, Memory}
@@ -116,6 +114,19 @@ sending from to k m s =
 -- a liar to whom p came has said nothing, or has sent one message as from itself about the same note
 abbrev pub Lied : (s t : Scene) → Packet → Type 0
 Lied s t p = (t ≡ s) ⊎ ((to : ℕ) × (m : rules.Message) × (t ≡ sending p.to.0 to p.note.0 m s))
+
+-- to whom a liar says this, when p came to it
+abbrev pub answered_to : Packet → rules.Message → ℕ
+answered_to p (rules.Take x) = p.from.0
+answered_to p (rules.Took e) = office
+answered_to p (rules.Ask r) = p.from.0
+answered_to p (rules.Told r x) = p.from.0
+
+-- a liar to whom p came has answered by the seed, if there is one
+abbrev pub Answered : (s t : Stage) → Packet → Type 0
+Answered s t p =
+    MatchOption (option_and_then (λ d. answer_by d.state (message_of p.message)) s.seed) (scene_of t ≡ scene_of s)
+    (λ m. scene_of t ≡ sending p.to.0 (answered_to p m) p.note.0 m (scene_of s))
 
 -- what a command that was turned away left as it was
 abbrev pub IfTurnedAway : Result Unit Failure → Type 0 → Type 0

@@ -17,9 +17,8 @@ use notes::note::Note;
 use notes::quorum::Quorum;
 use notes::warden_id::WardenId;
 use notes::warden_set::WardenSet;
-use parties::message::Message;
+use parties::message::Incoming;
 use parties::step::WardenStep;
-use parties_tables::no_memory::NoMemory;
 use parties_tables::office::Office;
 use parties_tables::warden::Warden;
 use std::alloc::{AllocError, Global};
@@ -67,10 +66,10 @@ impl Cast {
     pub fn written(&self, note: NoteId) -> Note
         ensures { note_of result ≡ ((office_of self.now.office).desks.at note.0).now }
     {
-        match self.office.desks.get(note) {
-            Some(desk) => desk.now,
-            None => Note::none(),
-        }
+        self.office
+            .desks
+            .get(note)
+            .map_or(Note::none(), |desk| desk.now)
     }
 
     /// Whether the warden takes part.
@@ -120,17 +119,15 @@ impl Cast {
     pub(crate) fn hear(
         &mut self,
         warden: WardenId,
-        from: PartyId,
-        note: NoteId,
-        message: Message,
-    ) -> Result<WardenStep, NoMemory>
+        incoming: Incoming,
+    ) -> Result<WardenStep, AllocError>
         requires { warden.index < vec_len self.old.wardens }
-        ensures did { IfOk result (λ step. HeardBy warden.index from.0 note.0 (message_of message) (keeps_of self.old.wardens.items) (keeps_of self.new.wardens.items) (sends_of step.sends) (warden_outcome step.outcome)) }
+        ensures did { IfOk result (λ step. HeardBy warden.index incoming.from.0 incoming.note.0 (message_of incoming.message) (keeps_of self.old.wardens.items) (keeps_of self.new.wardens.items) (sends_of step.sends) (warden_outcome step.outcome)) }
         ensures count { vec_len self.new.wardens ≡ vec_len self.old.wardens }
         ensures office { self.new.office ≡ self.old.office }
         ensures readers { self.new.readers ≡ self.old.readers }
         ensures liars { self.new.liars ≡ self.old.liars }
     {
-        self.wardens[warden.index as usize].on(from, note, message)
+        self.wardens[warden.index as usize].on(incoming)
     }
 }

@@ -1,5 +1,9 @@
 // The commands of a script.
-use crate::party::{Party, ReaderId};
+ghost use Rattle.std.specs.Prelude.{◌≡◌, ◌↔◌, [], slice_get};
+ghost use Rattle.rehearsal.specs.declared.command.Line.TheVariants.{Blank, Remark};
+
+use crate::party::Party;
+use crate::reader_id::ReaderId;
 use crate::script_error::ScriptError;
 use crate::way::Which;
 use crate::words::{Words, party_of};
@@ -49,7 +53,7 @@ pub struct Saying {
 }
 
 /// For whom time passes.
-#[derive(Clone, Copy)]
+#[derive(Clone, Copy, Debug, PartialEq, Eq)]
 pub enum Clock {
     All,
     Office,
@@ -57,7 +61,10 @@ pub enum Clock {
 }
 
 impl Line {
-    pub fn parse(text: &str) -> Result<Line, ScriptError> {
+    pub fn parse(text: &str) -> Result<Line, ScriptError>
+        ensures blank { (result ≡ Ok Blank) ↔ (text.now ≡ []) }
+        ensures remark { (result ≡ Ok Remark) ↔ (slice_get text.now 0 ≡ Some 35) }
+    {
         if text.is_empty() {
             return Ok(Line::Blank);
         }

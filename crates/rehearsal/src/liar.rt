@@ -1,6 +1,8 @@
 // What a liar makes up, from a seed.
-ghost use Rattle.std.specs.Prelude.{◌≡◌};
-ghost use Rattle.rehearsal.specs.Seeds.{stepped, drawn, speaks_by, round_by, edition_by};
+ghost use Rattle.std.specs.Prelude.{◌≡◌, option_map};
+ghost use Rattle.notes.specs.Views.{bytes_of, note_of};
+ghost use Rattle.parties.specs.Views.{message_of};
+ghost use Rattle.rehearsal.specs.Seeds.{stepped, drawn, speaks_by, round_by, edition_by, value_by, after_value, note_by, answer_by, after_answer};
 
 use notes::ids::{Edition, RoundNumber};
 use notes::note::Note;
@@ -8,7 +10,7 @@ use notes::value::Value;
 use parties::message::Message;
 
 /// The numbers by which liars answer, drawn one after another: splitmix64.
-#[derive(Clone, Copy)]
+#[derive(Clone, Copy, Debug, PartialEq, Eq)]
 pub struct Seed {
     pub state: u64,
 }
@@ -26,14 +28,16 @@ impl Seed {
     }
 
     /// What is said to a take or an ask, if anything: the first draw tells whether, and then the words are drawn in their order.
-    pub fn answer(&mut self, message: Message) -> Option<Message> {
+    pub fn answer(&mut self, message: Message) -> Option<Message>
+        ensures state { self.new.state ≡ after_answer self.old.state (message_of message) }
+        ensures said { option_map message_of result ≡ answer_by self.old.state (message_of message) }
+    {
         match message {
             Message::Take(_) if self.speaks() => Some(Message::Took(self.edition())),
             Message::Ask(round) if self.speaks() => {
-                let round = self.round(round);
-                Some(Message::Told(round, self.note()))
+                Some(Message::Told(self.round(round), self.note()))
             }
-            Message::Take(_) | Message::Took(_) | Message::Ask(_) | Message::Told(_, _) => None,
+            _ => None,
         }
     }
 
@@ -68,18 +72,25 @@ impl Seed {
         }
     }
 
-    fn note(&mut self) -> Note {
-        let edition = self.edition();
-        let value = self.value();
-        Note { edition, value }
+    fn note(&mut self) -> Note
+        ensures state { self.new.state ≡ after_value (stepped self.old.state) }
+        ensures note { note_of result ≡ note_by self.old.state }
+    {
+        Note {
+            edition: self.edition(),
+            value: self.value(),
+        }
     }
 
     // Up to three bytes.
-    fn value(&mut self) -> Value {
+    fn value(&mut self) -> Value
+        ensures state { self.new.state ≡ after_value self.old.state }
+        ensures bytes { bytes_of result ≡ value_by self.old.state }
+    {
         let length = (self.draw() % 4) as u8;
         let mut bytes = [0; 64];
-        for place in 0..length as usize {
-            bytes[place] = (self.draw() % 256) as u8;
+        for byte in &mut bytes[..length as usize] {
+            *byte = (self.draw() % 256) as u8;
         }
         Value { length, bytes }
     }

@@ -4,15 +4,14 @@
 pub mod cast;
 pub mod command;
 pub mod failure;
-pub mod kept;
 pub mod liar;
 pub mod party;
 pub mod play;
+pub mod reader_id;
 pub mod readers;
 pub mod rehearsal;
 pub mod script_error;
 pub mod stage;
-pub mod text;
 pub mod transcript;
 pub mod way;
 pub mod words;

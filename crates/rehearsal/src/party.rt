@@ -1,13 +1,12 @@
 // Who takes part in a rehearsal.
-ghost use Rattle.std.specs.Prelude.{◌≡◌, ◌+◌, ◌<◌, MatchOption};
+ghost use Rattle.std.specs.Prelude.{◌≡◌, MatchResult};
 ghost use Rattle.rehearsal.specs.Parties.{party_number, TakesPart};
+ghost use Rattle.rehearsal.specs.declared.script_error.ScriptError.TheVariants.{NoSuchParty};
 
-pub use crate::kept::reader_id::ReaderId;
+use crate::reader_id::{FIRST_READER, ReaderId};
+use crate::script_error::ScriptError;
 use notes::ids::{OFFICE, PartyId};
 use notes::warden_id::WardenId;
-
-/// The number of the first reader.
-pub const FIRST_READER: u32 = 65;
 
 #[derive(Clone, Copy)]
 pub enum Party {
@@ -16,36 +15,32 @@ pub enum Party {
     Reader(ReaderId),
 }
 
-impl ReaderId {
-    pub fn id(self) -> PartyId
-        ensures { result.0 ≡ 65 + self.index }
-    {
-        PartyId(FIRST_READER + self.index as u32)
+impl From<Party> for PartyId {
+    ghost from_gives = { λ party id. id.0 ≡ party_number party };
+
+    fn from(party: Party) -> PartyId {
+        match party {
+            Party::Office => OFFICE,
+            Party::Warden(warden) => warden.into(),
+            Party::Reader(reader) => reader.into(),
+        }
     }
 }
 
-impl Party {
-    /// Who has this number, if somebody can have it.
-    pub fn of(id: PartyId) -> Option<Party>
-        ensures { MatchOption result (TakesPart id.0 → ⊥) (λ p. party_number p ≡ id.0) }
-    {
+// Who has this number, if somebody can have it.
+impl TryFrom<PartyId> for Party {
+    type Error = ScriptError;
+
+    ghost try_from_gives = { λ id r. MatchResult r (λ p. party_number p ≡ id.0) (λ e. (e ≡ NoSuchParty) × (TakesPart id.0 → ⊥)) };
+
+    fn try_from(id: PartyId) -> Result<Party, ScriptError> {
         match id.0 {
-            0..=62 => Some(Party::Warden(WardenId { index: id.0 as u8 })),
-            OFFICE => Some(Party::Office),
-            65..=68 => Some(Party::Reader(ReaderId {
+            0..=62 => Ok(Party::Warden(WardenId { index: id.0 as u8 })),
+            63 => Ok(Party::Office),
+            65..=68 => Ok(Party::Reader(ReaderId {
                 index: (id.0 - FIRST_READER) as u8,
             })),
-            _ => None,
-        }
-    }
-
-    pub fn id(self) -> PartyId
-        ensures { result.0 ≡ party_number self }
-    {
-        match self {
-            Party::Office => PartyId(OFFICE),
-            Party::Warden(warden) => PartyId(warden.index as u32),
-            Party::Reader(reader) => reader.id(),
+            _ => Err(ScriptError::NoSuchParty),
         }
     }
 }

@@ -5,7 +5,7 @@ ghost use Rattle.rehearsal.specs.Scenes.{IfTurnedAway};
 use crate::command::{Clock, Command, Saying};
 use crate::failure::Failure;
 use crate::liar::Seed;
-use crate::party::ReaderId;
+use crate::reader_id::ReaderId;
 use crate::script_error::ScriptError;
 use crate::stage::{Arrival, Stage};
 use crate::transcript::Transcript;
@@ -16,174 +16,172 @@ use notes::value::Value;
 /// The most messages that come by one `deliver all`.
 pub const MOST_DELIVERED: u32 = 10000;
 
-/// Does a command.
-pub fn play(stage: &mut Stage, out: &mut Transcript, command: Command) -> Result<(), Failure>
-    ensures { IfTurnedAway result (stage.new ≡ stage.old) }
-{
-    match command {
-        Command::Liar(warden) => {
-            stage.cast.turn(warden)?;
-            Ok(out.turns(warden)?)
-        }
-        Command::Forget(warden) => {
-            stage.cast.forget(stage.heap, warden)?;
-            Ok(out.forgets(warden)?)
-        }
-        Command::Seed(seed) => {
-            stage.seed = Some(Seed { state: seed });
-            Ok(out.seeds(seed)?)
-        }
-        Command::Write(note, value) => write(stage, out, note, value),
-        Command::Tick(clock) => tick(stage, out, clock),
-        Command::Read(reader, note) => read(stage, out, reader, note),
-        Command::Deliver(which) => deliver(stage, out, which),
-        Command::DeliverAll => deliver_all(stage, out),
-        Command::Lose(which) => lose(stage, out, which),
-        Command::Double(which) => double(stage, out, which),
-        Command::Late(which) => delay(stage, out, which),
-        Command::Say(saying) => say(stage, out, saying),
-        Command::Show => Ok(out.show(stage)?),
-    }
-}
-
-fn write(stage: &mut Stage, out: &mut Transcript, note: NoteId, value: Value) -> Result<(), Failure>
-    ensures { IfTurnedAway result ⊥ }
-{
-    let before = stage.way.packets.len();
-    let outcome = stage.write(note, value)?;
-    out.writes(note, stage.cast.written(note), outcome)?;
-    Ok(out.sent(&stage.way, before)?)
-}
-
-fn tick(stage: &mut Stage, out: &mut Transcript, clock: Clock) -> Result<(), Failure>
-    ensures { IfTurnedAway result ⊥ }
-{
-    match clock {
-        Clock::Office => tick_office(stage, out),
-        Clock::Reader(reader) => tick_reader(stage, out, reader),
-        Clock::All => tick_all(stage, out),
-    }
-}
-
-fn tick_office(stage: &mut Stage, out: &mut Transcript) -> Result<(), Failure>
-    ensures { IfTurnedAway result ⊥ }
-{
-    let before = stage.way.packets.len();
-    stage.tick_office()?;
-    out.office_ticks(&stage.cast.office)?;
-    Ok(out.sent(&stage.way, before)?)
-}
-
-fn tick_reader(stage: &mut Stage, out: &mut Transcript, reader: ReaderId) -> Result<(), Failure>
-    ensures { IfTurnedAway result ⊥ }
-{
-    let before = stage.way.packets.len();
-    let outcome = stage.tick_reader(reader)?;
-    out.reader(&stage.cast, reader, outcome)?;
-    Ok(out.sent(&stage.way, before)?)
-}
-
-// A reader that never began to read is passed over.
-fn tick_all(stage: &mut Stage, out: &mut Transcript) -> Result<(), Failure>
-    ensures { IfTurnedAway result ⊥ }
-{
-    tick_office(stage, out)?;
-    for index in 0..4 {
-        let reader = ReaderId { index };
-        if stage.cast.readers.has_read(reader) {
-            tick_reader(stage, out, reader)?;
+impl Stage {
+    /// Does a command.
+    pub fn play(&mut self, out: &mut Transcript, command: Command) -> Result<(), Failure>
+        ensures { IfTurnedAway result (self.new ≡ self.old) }
+    {
+        match command {
+            Command::Liar(warden) => {
+                self.cast.turn(warden)?;
+                Ok(out.turns(warden)?)
+            }
+            Command::Forget(warden) => {
+                self.cast.forget(self.heap, warden)?;
+                Ok(out.forgets(warden)?)
+            }
+            Command::Seed(seed) => {
+                self.seed = Some(Seed { state: seed });
+                Ok(out.seeds(seed)?)
+            }
+            Command::Write(note, value) => self.play_write(out, note, value),
+            Command::Tick(clock) => self.play_tick(out, clock),
+            Command::Read(reader, note) => self.play_read(out, reader, note),
+            Command::Deliver(which) => self.play_deliver(out, which),
+            Command::DeliverAll => self.play_deliver_all(out),
+            Command::Lose(which) => self.play_lose(out, which),
+            Command::Double(which) => self.play_double(out, which),
+            Command::Late(which) => self.play_late(out, which),
+            Command::Say(saying) => self.play_say(out, saying),
+            Command::Show => Ok(out.show(self)?),
         }
     }
-    Ok(())
-}
 
-fn read(
-    stage: &mut Stage,
-    out: &mut Transcript,
-    reader: ReaderId,
-    note: NoteId,
-) -> Result<(), Failure>
-    ensures { IfTurnedAway result ⊥ }
-{
-    let before = stage.way.packets.len();
-    let outcome = stage.read(reader, note)?;
-    out.reader(&stage.cast, reader, outcome)?;
-    Ok(out.sent(&stage.way, before)?)
-}
-
-fn deliver(stage: &mut Stage, out: &mut Transcript, which: Which) -> Result<(), Failure>
-    ensures { IfTurnedAway result (stage.new ≡ stage.old) }
-{
-    let Some(packet) = stage.way.take(which) else {
-        return Err(Failure::Script(ScriptError::NotOnItsWay));
-    };
-    bring(stage, out, packet)
-}
-
-fn deliver_all(stage: &mut Stage, out: &mut Transcript) -> Result<(), Failure>
-    ensures { IfTurnedAway result ⊥ }
-{
-    if stage.way.packets.is_empty() {
-        return Ok(out.nothing_comes()?);
+    fn play_write(
+        &mut self,
+        out: &mut Transcript,
+        note: NoteId,
+        value: Value,
+    ) -> Result<(), Failure>
+        ensures { IfTurnedAway result ⊥ }
+    {
+        let before = self.way.packets.len();
+        let outcome = self.write(note, value)?;
+        out.writes(note, self.cast.written(note), outcome)?;
+        Ok(out.sent(&self.way, before)?)
     }
-    for _ in 0..MOST_DELIVERED {
-        let Some(packet) = stage.way.take_first() else {
+
+    fn play_tick(&mut self, out: &mut Transcript, clock: Clock) -> Result<(), Failure>
+        ensures { IfTurnedAway result ⊥ }
+    {
+        match clock {
+            Clock::Office => self.play_tick_office(out),
+            Clock::Reader(reader) => self.play_tick_reader(out, reader),
+            Clock::All => self.play_tick_all(out),
+        }
+    }
+
+    fn play_tick_office(&mut self, out: &mut Transcript) -> Result<(), Failure>
+        ensures { IfTurnedAway result ⊥ }
+    {
+        let before = self.way.packets.len();
+        self.tick_office()?;
+        out.office_ticks(&self.cast.office)?;
+        Ok(out.sent(&self.way, before)?)
+    }
+
+    fn play_tick_reader(&mut self, out: &mut Transcript, reader: ReaderId) -> Result<(), Failure>
+        ensures { IfTurnedAway result ⊥ }
+    {
+        let before = self.way.packets.len();
+        let outcome = self.tick_reader(reader)?;
+        out.reader(&self.cast, reader, outcome)?;
+        Ok(out.sent(&self.way, before)?)
+    }
+
+    // A reader that never began to read is passed over.
+    fn play_tick_all(&mut self, out: &mut Transcript) -> Result<(), Failure>
+        ensures { IfTurnedAway result ⊥ }
+    {
+        self.play_tick_office(out)?;
+        for reader in ReaderId::all() {
+            if self.cast.readers.has_read(reader) {
+                self.play_tick_reader(out, reader)?;
+            }
+        }
+        Ok(())
+    }
+
+    fn play_read(
+        &mut self,
+        out: &mut Transcript,
+        reader: ReaderId,
+        note: NoteId,
+    ) -> Result<(), Failure>
+        ensures { IfTurnedAway result ⊥ }
+    {
+        let before = self.way.packets.len();
+        let outcome = self.read(reader, note)?;
+        out.reader(&self.cast, reader, outcome)?;
+        Ok(out.sent(&self.way, before)?)
+    }
+
+    fn play_deliver(&mut self, out: &mut Transcript, which: Which) -> Result<(), Failure>
+        ensures { IfTurnedAway result (self.new ≡ self.old) }
+    {
+        let packet = self.way.take(which).ok_or(ScriptError::NotOnItsWay)?;
+        self.bring(out, packet)
+    }
+
+    fn play_deliver_all(&mut self, out: &mut Transcript) -> Result<(), Failure>
+        ensures { IfTurnedAway result ⊥ }
+    {
+        if self.way.packets.is_empty() {
+            return Ok(out.nothing_comes()?);
+        }
+        for _ in 0..MOST_DELIVERED {
+            let Some(packet) = self.way.take_first() else {
+                return Ok(());
+            };
+            self.bring(out, packet)?;
+        }
+        if self.way.packets.is_empty() {
             return Ok(());
-        };
-        bring(stage, out, packet)?;
+        }
+        Ok(out.stops(MOST_DELIVERED)?)
     }
-    if stage.way.packets.is_empty() {
-        return Ok(());
+
+    // A message that was taken from the way comes to whom it is for.
+    fn bring(&mut self, out: &mut Transcript, packet: Packet) -> Result<(), Failure>
+        ensures { IfTurnedAway result ⊥ }
+    {
+        let before = self.way.packets.len();
+        let arrival = self.arrive(packet)?;
+        if let Arrival::Liar = arrival {
+            self.lie(packet)?;
+        }
+        out.comes(&self.cast, packet, arrival)?;
+        Ok(out.sent(&self.way, before)?)
     }
-    Ok(out.stops(MOST_DELIVERED)?)
-}
 
-// A message that was taken from the way comes to whom it is for.
-fn bring(stage: &mut Stage, out: &mut Transcript, packet: Packet) -> Result<(), Failure>
-    ensures { IfTurnedAway result ⊥ }
-{
-    let before = stage.way.packets.len();
-    let arrival = stage.arrive(packet)?;
-    if let Arrival::Liar = arrival {
-        stage.lie(packet)?;
+    fn play_lose(&mut self, out: &mut Transcript, which: Which) -> Result<(), Failure>
+        ensures { IfTurnedAway result (self.new ≡ self.old) }
+    {
+        let packet = self.way.take(which).ok_or(ScriptError::NotOnItsWay)?;
+        Ok(out.became(packet, "lost")?)
     }
-    out.comes(&stage.cast, packet, arrival)?;
-    Ok(out.sent(&stage.way, before)?)
-}
 
-fn lose(stage: &mut Stage, out: &mut Transcript, which: Which) -> Result<(), Failure>
-    ensures { IfTurnedAway result (stage.new ≡ stage.old) }
-{
-    match stage.way.take(which) {
-        Some(packet) => Ok(out.became(packet, "lost")?),
-        None => Err(Failure::Script(ScriptError::NotOnItsWay)),
+    fn play_double(&mut self, out: &mut Transcript, which: Which) -> Result<(), Failure>
+        ensures { IfTurnedAway result (self.new ≡ self.old) }
+    {
+        let before = self.way.packets.len();
+        let packet = self.way.double(which)?.ok_or(ScriptError::NotOnItsWay)?;
+        out.became(packet, "doubled")?;
+        Ok(out.sent(&self.way, before)?)
     }
-}
 
-fn double(stage: &mut Stage, out: &mut Transcript, which: Which) -> Result<(), Failure>
-    ensures { IfTurnedAway result (stage.new ≡ stage.old) }
-{
-    let before = stage.way.packets.len();
-    let Some(packet) = stage.way.double(which)? else {
-        return Err(Failure::Script(ScriptError::NotOnItsWay));
-    };
-    out.became(packet, "doubled")?;
-    Ok(out.sent(&stage.way, before)?)
-}
-
-fn delay(stage: &mut Stage, out: &mut Transcript, which: Which) -> Result<(), Failure>
-    ensures { IfTurnedAway result (stage.new ≡ stage.old) }
-{
-    match stage.way.delay(which)? {
-        Some(packet) => Ok(out.became(packet, "late")?),
-        None => Err(Failure::Script(ScriptError::NotOnItsWay)),
+    fn play_late(&mut self, out: &mut Transcript, which: Which) -> Result<(), Failure>
+        ensures { IfTurnedAway result (self.new ≡ self.old) }
+    {
+        let packet = self.way.delay(which)?.ok_or(ScriptError::NotOnItsWay)?;
+        Ok(out.became(packet, "late")?)
     }
-}
 
-fn say(stage: &mut Stage, out: &mut Transcript, saying: Saying) -> Result<(), Failure>
-    ensures { IfTurnedAway result (stage.new ≡ stage.old) }
-{
-    let before = stage.way.packets.len();
-    stage.say(saying)?;
-    Ok(out.sent(&stage.way, before)?)
+    fn play_say(&mut self, out: &mut Transcript, saying: Saying) -> Result<(), Failure>
+        ensures { IfTurnedAway result (self.new ≡ self.old) }
+    {
+        let before = self.way.packets.len();
+        self.say(saying)?;
+        Ok(out.sent(&self.way, before)?)
+    }
 }

@@ -5,7 +5,7 @@ ghost use Rattle.protocol.specs.Reader.{new_reader};
 ghost use Rattle.parties.specs.Readers.{reader_of};
 ghost use Rattle.rehearsal.specs.Casts.{numbers_by, readers_of, numbers_of};
 
-use crate::kept::reader_id::ReaderId;
+use crate::reader_id::ReaderId;
 use notes::ids::RoundNumber;
 use notes::quorum::Quorum;
 use parties::reader::Reader;

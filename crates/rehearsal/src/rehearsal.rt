@@ -1,7 +1,8 @@
 // A rehearsal, line by line of its script.
+ghost use Rattle.std.specs.Prelude.{◌≡◌, [], string_bytes};
+
 use crate::command::Line;
 use crate::failure::Failure;
-use crate::play::play;
 use crate::script_error::ScriptError;
 use crate::stage::Stage;
 use crate::transcript::Transcript;
@@ -17,7 +18,9 @@ pub struct Rehearsal {
 }
 
 impl Rehearsal {
-    pub fn new(heap: Global) -> Rehearsal {
+    pub fn new(heap: Global) -> Rehearsal
+        ensures { string_bytes result.transcript.text ≡ [] }
+    {
         Rehearsal {
             heap,
             lines: 0,
@@ -31,7 +34,7 @@ impl Rehearsal {
         self.lines = self.lines.saturating_add(1);
         let played = match std::str::from_utf8(bytes) {
             Ok(text) => self.text(text),
-            Err(_) => Err(Failure::Script(ScriptError::NotText)),
+            Err(_) => Err(ScriptError::NotText.into()),
         };
         self.tell(played)
     }
@@ -39,7 +42,7 @@ impl Rehearsal {
     /// Passes over the next line of the script, which was too long to be kept.
     pub fn long_line(&mut self) -> Result<(), AllocError> {
         self.lines = self.lines.saturating_add(1);
-        self.tell(Err(Failure::Script(ScriptError::TooLong)))
+        self.tell(Err(ScriptError::TooLong.into()))
     }
 
     fn text(&mut self, text: &str) -> Result<(), Failure> {
@@ -47,7 +50,7 @@ impl Rehearsal {
         match line {
             Ok(Line::Blank) => {}
             Ok(Line::Remark) => self.transcript.remark(text)?,
-            Ok(Line::Begin(_)) | Ok(Line::Do(_)) | Err(_) => self.transcript.echo(text)?,
+            Ok(Line::Begin(_) | Line::Do(_)) | Err(_) => self.transcript.echo(text)?,
         }
         self.perform(line?)
     }
@@ -59,10 +62,10 @@ impl Rehearsal {
                 self.stage = Some(Stage::new(self.heap, quorum)?);
                 Ok(self.transcript.begins(quorum)?)
             }
-            Line::Do(command) => match &mut self.stage {
-                Some(stage) => play(stage, &mut self.transcript, command),
-                None => Err(Failure::Script(ScriptError::NotBegun)),
-            },
+            Line::Do(command) => {
+                let stage = self.stage.as_mut().ok_or(ScriptError::NotBegun)?;
+                stage.play(&mut self.transcript, command)
+            }
         }
     }
 
@@ -71,10 +74,7 @@ impl Rehearsal {
         match played {
             Ok(()) => Ok(()),
             Err(Failure::Memory(error)) => Err(error),
-            Err(Failure::Script(error)) => match self.transcript.turned_away(self.lines, error) {
-                Ok(()) => Ok(()),
-                Err(_) => Err(AllocError),
-            },
+            Err(Failure::Script(error)) => self.transcript.turned_away(self.lines, error),
         }
     }
 }

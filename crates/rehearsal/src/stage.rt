@@ -1,23 +1,27 @@
 // The parties and what is on its way between them. Whatever a party does is a step of `parties` or `parties_tables`.
-ghost use Rattle.std.specs.Prelude.{◌≡◌, ◌<◌, true, [], ◌++◌, map, IfOk, vec_len, OnOk};
+ghost use Rattle.std.specs.Prelude.{◌≡◌, ◌<◌, true, [], ◌++◌, map, option_map, option_and_then, IfOk, vec_len, OnOk};
 ghost use Rattle.register.specs.Note.{none};
 ghost use Rattle.notes.specs.Views.{bytes_of, members};
 ghost use Rattle.protocol.specs.Message.{packets};
-ghost use Rattle.protocol.specs.Reader.{new_reader, read_on};
+ghost use Rattle.protocol.specs.Reader.{Reader as AnyReader, ReaderDone, new_reader, read_on};
+ghost use Rattle.protocol.specs.Step.{Step};
 ghost use Rattle.protocol_tables.specs.Keep.{empty};
 ghost use Rattle.protocol_tables.specs.Office.{empty_office, office_writes, office_ticks};
-ghost use Rattle.parties.specs.Views.{message_of, sends_of};
+ghost use Rattle.parties.specs.Readers.{reader_of};
+ghost use Rattle.parties.specs.Views.{message_of, sends_of, reader_outcome, Did};
 ghost use Rattle.parties_tables.specs.Offices.{letter_of};
 ghost use Rattle.rehearsal.specs.Parties.{party_number};
+ghost use Rattle.rehearsal.specs.Casts.{numbers_by, numbers_of};
+ghost use Rattle.rehearsal.specs.Seeds.{answer_by};
 ghost use Rattle.rehearsal.specs.Ways.{packets_of};
-ghost use Rattle.rehearsal.specs.Scenes.{scene_of, wardens_of, posted, by_office, Stays, OfficeMade, WardenMade, ReaderMade, ticked, at_office, at_warden, at_reader, Arrived, sending, Lied, IfTurnedAway};
+ghost use Rattle.rehearsal.specs.Scenes.{scene_of, wardens_of, posted, by_office, Stays, OfficeMade, WardenMade, ReaderMade, ticked, at_office, at_warden, at_reader, Arrived, sending, Lied, Answered, IfTurnedAway};
 
 use crate::cast::Cast;
 use crate::command::Saying;
 use crate::failure::Failure;
-use crate::kept::reader_id::ReaderId;
 use crate::liar::Seed;
 use crate::party::Party;
+use crate::reader_id::ReaderId;
 use crate::script_error::ScriptError;
 use crate::way::{Packet, Way};
 use notes::ids::{NoteId, OFFICE, PartyId};
@@ -25,7 +29,8 @@ use notes::quorum::Quorum;
 use notes::value::Value;
 use notes::warden_id::WardenId;
 use parties::message::{Message, Sends};
-use parties::step::{OfficeOutcome, ReaderOutcome, WardenOutcome};
+use parties::reader::Reader;
+use parties::step::{OfficeOutcome, ReaderOutcome, ReaderStep, WardenOutcome};
 use parties_tables::office::Letter;
 use std::alloc::{AllocError, Global};
 
@@ -68,10 +73,8 @@ impl Stage {
         ensures stays { Stays self.old self.new }
         ensures did { IfOk result (OfficeMade self.old self.new (office_writes (scene_of self.old).office note.0 (bytes_of value))) }
     {
-        let Ok(step) = self.cast.office.write(note, value) else {
-            return Err(AllocError);
-        };
-        self.send(PartyId(OFFICE), note, step.sends)?;
+        let step = self.cast.office.write(note, value)?;
+        self.send(OFFICE, note, step.sends)?;
         Ok(step.outcome)
     }
 
@@ -80,9 +83,7 @@ impl Stage {
         ensures stays { Stays self.old self.new }
         ensures scene { OnOk result (scene_of self.new ≡ by_office (wardens_of self.old) (office_ticks (scene_of self.old).office) (scene_of self.old)) }
     {
-        let Ok(letters) = self.cast.office.tick(self.heap) else {
-            return Err(AllocError);
-        };
+        let letters = self.cast.office.tick(self.heap)?;
         self.post(letters.as_slice())
     }
 
@@ -93,7 +94,7 @@ impl Stage {
         ensures way { OnOk result (packets_of self.new.way ≡ packets_of self.old.way ++ posted (wardens_of self.old) (map letter_of letters.now)) }
     {
         for letter in letters {
-            self.send(PartyId(OFFICE), letter.note, letter.sends)?;
+            self.send(OFFICE, letter.note, letter.sends)?;
         }
         Ok(())
     }
@@ -105,9 +106,7 @@ impl Stage {
     {
         let mut party = *self.cast.readers.get(reader);
         let step = party.read(note);
-        self.cast.readers.set(reader, party);
-        self.send(reader.id(), party.note, step.sends)?;
-        Ok(step.outcome)
+        self.reader_made(reader, party, step)
     }
 
     /// Time passes for a reader.
@@ -117,9 +116,7 @@ impl Stage {
     {
         let mut party = *self.cast.readers.get(reader);
         let step = party.tick();
-        self.cast.readers.set(reader, party);
-        self.send(reader.id(), party.note, step.sends)?;
-        Ok(step.outcome)
+        self.reader_made(reader, party, step)
     }
 
     /// A message comes to whom it is for.
@@ -127,13 +124,11 @@ impl Stage {
         ensures stays { Stays self.old self.new }
         ensures arrived { IfOk result (Arrived self.old self.new packet) }
     {
-        let Some(party) = Party::of(packet.to) else {
-            return Ok(Arrival::Nobody);
-        };
-        match party {
-            Party::Office => Ok(Arrival::Office(self.to_office(packet)?)),
-            Party::Warden(warden) => self.to_warden(warden, packet),
-            Party::Reader(reader) => Ok(Arrival::Reader(self.to_reader(reader, packet)?)),
+        match Party::try_from(packet.to) {
+            Ok(Party::Office) => Ok(Arrival::Office(self.to_office(packet)?)),
+            Ok(Party::Warden(warden)) => self.to_warden(warden, packet),
+            Ok(Party::Reader(reader)) => Ok(Arrival::Reader(self.to_reader(reader, packet)?)),
+            Err(_) => Ok(Arrival::Nobody),
         }
     }
 
@@ -155,11 +150,8 @@ impl Stage {
         ensures stays { Stays self.old self.new }
         ensures did { IfOk result (OfficeMade self.old self.new (at_office self.old packet)) }
     {
-        let step = self
-            .cast
-            .office
-            .on(packet.from, packet.note, packet.message);
-        self.send(PartyId(OFFICE), packet.note, step.sends)?;
+        let step = self.cast.office.on(packet.incoming());
+        self.send(OFFICE, packet.note, step.sends)?;
         Ok(step.outcome)
     }
 
@@ -168,13 +160,8 @@ impl Stage {
         ensures stays { Stays self.old self.new }
         ensures did { IfOk result (WardenMade self.old self.new warden.index packet.note.0 (at_warden self.old warden.index packet)) }
     {
-        let heard = self
-            .cast
-            .hear(warden, packet.from, packet.note, packet.message);
-        let Ok(step) = heard else {
-            return Err(AllocError);
-        };
-        self.send(PartyId(warden.index as u32), packet.note, step.sends)?;
+        let step = self.cast.hear(warden, packet.incoming())?;
+        self.send(warden.into(), packet.note, step.sends)?;
         Ok(step.outcome)
     }
 
@@ -183,9 +170,22 @@ impl Stage {
         ensures did { IfOk result (ReaderMade self.old self.new reader.index (at_reader self.old reader.index packet)) }
     {
         let mut party = *self.cast.readers.get(reader);
-        let step = party.on(packet.from, packet.note, packet.message);
-        self.cast.readers.set(reader, party);
-        self.send(reader.id(), party.note, step.sends)?;
+        let step = party.on(packet.incoming());
+        self.reader_made(reader, party, step)
+    }
+
+    // A reader has made a step, and this is what it has now.
+    fn reader_made(
+        &mut self,
+        id: ReaderId,
+        reader: Reader,
+        step: ReaderStep,
+    ) -> Result<ReaderOutcome, AllocError>
+        ensures stays { numbers_by reader ≡ numbers_of self.old.cast.readers id.index → Stays self.old self.new }
+        ensures did { (rule : Step AnyReader ReaderDone) → Did (reader_of reader) (sends_of step.sends) (reader_outcome step.outcome) rule → IfOk result (ReaderMade self.old self.new id.index rule) }
+    {
+        self.cast.readers.set(id, reader);
+        self.send(id.into(), reader.note, step.sends)?;
         Ok(step.outcome)
     }
 
@@ -206,16 +206,19 @@ impl Stage {
         ensures unchanged { IfTurnedAway result (self.new ≡ self.old) }
     {
         if !self.cast.is_liar(saying.liar) {
-            return Err(Failure::Script(ScriptError::NotALiar));
+            return Err(ScriptError::NotALiar.into());
         }
         if let Party::Warden(to) = saying.to
             && !self.cast.is_there(to)
         {
-            return Err(Failure::Script(ScriptError::NoSuchWarden));
+            return Err(ScriptError::NoSuchWarden.into());
         }
-        let from = PartyId(saying.liar.index as u32);
-        self.way
-            .put(from, saying.to.id(), saying.note, saying.message)?;
+        self.way.put(
+            saying.liar.into(),
+            saying.to.into(),
+            saying.note,
+            saying.message,
+        )?;
         Ok(())
     }
 
@@ -223,26 +226,23 @@ impl Stage {
     pub fn lie(&mut self, packet: Packet) -> Result<(), AllocError>
         ensures cast { self.new.cast ≡ self.old.cast }
         ensures lied { OnOk result (Lied (scene_of self.old) (scene_of self.new) packet) }
+        ensures answered { OnOk result (Answered self.old self.new packet) }
     {
         let Some(message) = self.made_up(packet.message) else {
             return Ok(());
         };
         let to = match message {
-            Message::Took(_) => PartyId(OFFICE),
-            Message::Take(_) | Message::Ask(_) | Message::Told(_, _) => packet.from,
+            Message::Took(_) => OFFICE,
+            _ => packet.from,
         };
         self.way.put(packet.to, to, packet.note, message)
     }
 
     fn made_up(&mut self, message: Message) -> Option<Message>
+        ensures said { option_map message_of result ≡ option_and_then (λ s. answer_by s.state (message_of message)) self.old.seed }
         ensures cast { self.new.cast ≡ self.old.cast }
         ensures way { self.new.way ≡ self.old.way }
     {
-        let Some(mut seed) = self.seed else {
-            return None;
-        };
-        let answer = seed.answer(message);
-        self.seed = Some(seed);
-        answer
+        self.seed.as_mut()?.answer(message)
     }
 }

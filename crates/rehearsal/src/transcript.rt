@@ -1,17 +1,21 @@
 // What a rehearsal tells, line by line.
+ghost use Rattle.std.specs.Prelude.{◌≡◌, [], string_bytes};
+
 use crate::cast::Cast;
-use crate::party::ReaderId;
+use crate::reader_id::ReaderId;
 use crate::script_error::ScriptError;
 use crate::stage::{Arrival, Stage};
-use crate::text::Text;
 use crate::way::{Packet, Way};
-use notes::ids::NoteId;
+use notes::ids::{NoteId, PartyId};
 use notes::note::Note;
 use notes::quorum::Quorum;
 use notes::warden_id::WardenId;
 use parties::desk::Desk;
-use parties::step::{OfficeOutcome, ReaderOutcome, WardenOutcome};
+use parties::step::{
+    OfficeDone, OfficeOutcome, ReaderDone, ReaderOutcome, WardenDone, WardenOutcome,
+};
 use parties_tables::office::Office;
+use parties_tables::warden::Warden;
 use std::alloc::{AllocError, Global};
 
 /// The lines so far.
@@ -21,7 +25,9 @@ pub struct Transcript {
 }
 
 impl Transcript {
-    pub fn new(heap: Global) -> Transcript {
+    pub fn new(heap: Global) -> Transcript
+        ensures { string_bytes result.text ≡ [] }
+    {
         Transcript {
             text: String::new(heap),
         }
@@ -43,18 +49,15 @@ impl Transcript {
     }
 
     pub fn begins(&mut self, quorum: Quorum) -> Result<(), AllocError> {
-        let wardens = quorum.wardens;
-        let faults = quorum.faults;
+        let Quorum { wardens, faults } = quorum;
         writeln!(self.text, "  {wardens} wardens, of whom {faults} may lie")
     }
 
     pub fn turns(&mut self, warden: WardenId) -> Result<(), AllocError> {
-        let warden = warden.index;
         writeln!(self.text, "  {warden} lies from now on")
     }
 
     pub fn forgets(&mut self, warden: WardenId) -> Result<(), AllocError> {
-        let warden = warden.index;
         writeln!(self.text, "  {warden} has lost its notes")
     }
 
@@ -69,14 +72,9 @@ impl Transcript {
         now: Note,
         outcome: OfficeOutcome,
     ) -> Result<(), AllocError> {
-        let number = note.0;
         match outcome {
-            OfficeOutcome::Refused(refusal) => writeln!(self.text, "  office: {}", Text(refusal)),
-            _ => writeln!(
-                self.text,
-                "  office begins note {number} edition {}",
-                Text(now)
-            ),
+            Err(refusal) => writeln!(self.text, "  office: {refusal}"),
+            _ => writeln!(self.text, "  office begins note {note} edition {now}"),
         }
     }
 
@@ -96,16 +94,16 @@ impl Transcript {
         reader: ReaderId,
         outcome: ReaderOutcome,
     ) -> Result<(), AllocError> {
-        let id = Text(reader.id());
+        let id = PartyId::from(reader);
         match outcome {
-            ReaderOutcome::Asked | ReaderOutcome::Retried => {
+            Ok(ReaderDone::Asked) | Ok(ReaderDone::Retried) => {
                 let reader = cast.readers.get(reader);
-                let note = reader.note.0;
-                let round = reader.round.number.0;
+                let note = reader.note;
+                let round = reader.round.number;
                 writeln!(self.text, "  {id} begins round {round} of note {note}")
             }
-            ReaderOutcome::AskedAgain => writeln!(self.text, "  {id} asks again"),
-            ReaderOutcome::Refused(refusal) => writeln!(self.text, "  {id}: {}", Text(refusal)),
+            Ok(ReaderDone::AskedAgain) => writeln!(self.text, "  {id} asks again"),
+            Err(refusal) => writeln!(self.text, "  {id}: {refusal}"),
             _ => writeln!(self.text, "  {id}: nothing to do"),
         }
     }
@@ -117,9 +115,7 @@ impl Transcript {
         packet: Packet,
         arrival: Arrival,
     ) -> Result<(), AllocError> {
-        let number = packet.number;
-        let to = Text(packet.to);
-        write!(self.text, "  {number}: comes to {to}")?;
+        write!(self.text, "  {}: comes to {}", packet.number, packet.to)?;
         match arrival {
             Arrival::Office(outcome) => {
                 self.office_came_to(packet.note, cast.written(packet.note), outcome)
@@ -138,29 +134,27 @@ impl Transcript {
         now: Note,
         outcome: OfficeOutcome,
     ) -> Result<(), AllocError> {
-        let number = note.0;
         match outcome {
-            OfficeOutcome::Ended => writeln!(self.text, ": ended {number} {}", now.edition.0),
-            OfficeOutcome::Refused(refusal) => writeln!(self.text, ": {}", Text(refusal)),
+            Ok(OfficeDone::Ended) => writeln!(self.text, ": ended {note} {}", now.edition),
+            Err(refusal) => writeln!(self.text, ": {refusal}"),
             _ => writeln!(self.text, ": counted"),
         }
     }
 
     fn warden_came_to(&mut self, outcome: WardenOutcome) -> Result<(), AllocError> {
         match outcome {
-            WardenOutcome::Taken => writeln!(self.text, ": taken"),
-            WardenOutcome::Answered => writeln!(self.text, ": answered"),
-            WardenOutcome::Refused(refusal) => writeln!(self.text, ": {}", Text(refusal)),
+            Ok(WardenDone::Taken) => writeln!(self.text, ": taken"),
+            Ok(WardenDone::Answered) => writeln!(self.text, ": answered"),
+            Err(refusal) => writeln!(self.text, ": {refusal}"),
         }
     }
 
     fn reader_came_to(&mut self, note: NoteId, outcome: ReaderOutcome) -> Result<(), AllocError> {
-        let number = note.0;
         match outcome {
-            ReaderOutcome::Undecided => writeln!(self.text, ": undecided"),
-            ReaderOutcome::Read(note) => writeln!(self.text, ": note {number} {}", Text(note)),
-            ReaderOutcome::Unsure => writeln!(self.text, ": unsure {number}"),
-            ReaderOutcome::Refused(refusal) => writeln!(self.text, ": {}", Text(refusal)),
+            Ok(ReaderDone::Undecided) => writeln!(self.text, ": undecided"),
+            Ok(ReaderDone::Read(read)) => writeln!(self.text, ": note {note} {read}"),
+            Ok(ReaderDone::Unsure) => writeln!(self.text, ": unsure {note}"),
+            Err(refusal) => writeln!(self.text, ": {refusal}"),
             _ => writeln!(self.text, ": heard"),
         }
     }
@@ -189,29 +183,29 @@ impl Transcript {
     /// What each party has, and how much is on its way.
     pub fn show(&mut self, stage: &Stage) -> Result<(), AllocError> {
         self.show_office(&stage.cast.office)?;
-        for index in 0..63 {
-            self.show_warden(&stage.cast, WardenId { index })?;
+        let ids = (0..63).filter_map(WardenId::new);
+        for (id, warden) in ids.zip(&stage.cast.wardens) {
+            self.show_warden(&stage.cast, id, warden)?;
         }
-        for index in 0..4 {
-            self.show_reader(&stage.cast, ReaderId { index })?;
+        for reader in ReaderId::all() {
+            self.show_reader(&stage.cast, reader)?;
         }
-        let on_way = stage.way.packets.len();
-        writeln!(self.text, "  on the way: {on_way}")
+        writeln!(self.text, "  on the way: {}", stage.way.packets.len())
     }
 
     fn show_office(&mut self, office: &Office) -> Result<(), AllocError> {
         if office.desks.count() == 0 {
             return writeln!(self.text, "  office: no notes");
         }
-        for (number, desk) in office.desks.numbers.iter().zip(office.desks.items.iter()) {
+        for (number, desk) in office.desks.iter() {
             self.show_desk(*number, desk)?;
         }
         Ok(())
     }
 
-    fn show_desk(&mut self, number: u32, desk: &Desk) -> Result<(), AllocError> {
-        let note = Text(desk.now);
-        let acks = Text(desk.acks);
+    fn show_desk(&mut self, note: NoteId, desk: &Desk) -> Result<(), AllocError> {
+        let now = desk.now;
+        let acks = desk.acks;
         let writing = if desk.busy {
             "being written"
         } else {
@@ -219,22 +213,21 @@ impl Transcript {
         };
         writeln!(
             self.text,
-            "  office: note {number} edition {note}, {writing}, taken by{acks}"
+            "  office: note {note} edition {now}, {writing}, taken by{acks}"
         )
     }
 
-    // A warden that does not take part is passed over.
-    fn show_warden(&mut self, cast: &Cast, id: WardenId) -> Result<(), AllocError> {
-        let Some(warden) = cast.wardens.get(id.index as usize) else {
-            return Ok(());
-        };
+    fn show_warden(
+        &mut self,
+        cast: &Cast,
+        id: WardenId,
+        warden: &Warden,
+    ) -> Result<(), AllocError> {
         let lies = if cast.is_liar(id) { ", who lies" } else { "" };
-        let id = id.index;
         if warden.notes.count() == 0 {
             return writeln!(self.text, "  {id}{lies}: no notes");
         }
-        for (number, note) in warden.notes.numbers.iter().zip(warden.notes.items.iter()) {
-            let note = Text(*note);
+        for (number, note) in warden.notes.iter() {
             writeln!(self.text, "  {id}{lies}: note {number} edition {note}")?;
         }
         Ok(())
@@ -245,14 +238,14 @@ impl Transcript {
         if !cast.readers.has_read(reader) {
             return Ok(());
         }
-        let id = Text(reader.id());
+        let id = PartyId::from(reader);
         let reader = cast.readers.get(reader);
-        let note = reader.note.0;
-        let round = reader.round.number.0;
+        let note = reader.note;
+        let round = reader.round.number;
         if !reader.busy {
             return writeln!(self.text, "  {id}: not reading, round {round} was its last");
         }
-        let heard = Text(reader.round.heard);
+        let heard = reader.round.heard;
         writeln!(
             self.text,
             "  {id}: reading note {note} in round {round}, told by{heard}"

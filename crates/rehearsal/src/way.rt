@@ -6,8 +6,9 @@ ghost use Rattle.rehearsal.specs.Ways.{packet_of, packets_of, meant, Absent, Fir
 
 use crate::party::Party;
 use notes::ids::{NoteId, PartyId};
-use parties::message::{Message, Sends};
+use parties::message::{Incoming, Message, Sends};
 use std::alloc::{AllocError, Global};
+use std::fmt;
 
 /// A message on its way, about a note. Its number is its place among all that were ever sent.
 #[derive(Clone, Copy)]
@@ -33,13 +34,43 @@ pub struct Way {
     pub sent: u64,
 }
 
+impl Packet {
+    /// What comes to whom it is for.
+    pub fn incoming(self) -> Incoming
+        ensures { result ≡ record { from = self.from; note = self.note; message = self.message } }
+    {
+        Incoming {
+            from: self.from,
+            note: self.note,
+            message: self.message,
+        }
+    }
+}
+
 impl Which {
     fn means(&self, packet: &Packet) -> bool
         ensures { result ≡ meant self.now packet.now }
     {
         match self {
             Which::Number(number) => packet.number == *number,
-            Which::Between(from, to) => packet.from.0 == from.id().0 && packet.to.0 == to.id().0,
+            Which::Between(from, to) => {
+                packet.from.0 == PartyId::from(*from).0 && packet.to.0 == PartyId::from(*to).0
+            }
+        }
+    }
+}
+
+impl fmt::Display for Packet {
+    fn fmt<W: fmt::Write>(&self, f: &mut fmt::Formatter<W>) -> fmt::Result {
+        write!(f, "{}: {} -> {}: ", self.number, self.from, self.to)?;
+        let about = self.note;
+        match self.message {
+            Message::Take(note) => write!(f, "take note {about} edition {note}"),
+            Message::Took(edition) => write!(f, "took note {about} edition {edition}"),
+            Message::Ask(round) => write!(f, "ask note {about} round {round}"),
+            Message::Told(round, note) => {
+                write!(f, "told note {about} round {round} edition {note}")
+            }
         }
     }
 }
@@ -114,12 +145,7 @@ impl Way {
     fn find(&self, which: Which) -> Option<usize>
         ensures { MatchOption result (Absent which self.now.packets.items) (λ i. First which self.now.packets.items i) }
     {
-        for (place, packet) in self.packets.iter().enumerate() {
-            if which.means(packet) {
-                return Some(place);
-            }
-        }
-        None
+        self.packets.iter().position(|packet| which.means(packet))
     }
 
     /// Takes the first message, if there is one.
@@ -136,9 +162,7 @@ impl Way {
     pub fn take(&mut self, which: Which) -> Option<Packet>
         ensures { MatchOption result (Absent which self.old.packets.items × (self.new ≡ self.old)) (λ p. (k : Picked which self.old.packets.items p) × (self.new.packets.items ≡ others k)) }
     {
-        let Some(place) = self.find(which) else {
-            return None;
-        };
+        let place = self.find(which)?;
         Some(self.packets.remove(place))
     }
 

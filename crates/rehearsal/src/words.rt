@@ -1,11 +1,12 @@
 // The words of a line, and what they say.
-ghost use Rattle.std.specs.Prelude.{◌≡◌, ℕ, ◌^◌, ◌<◌, ◌≤◌, IfOk, decimal, MatchResult, ◌≢◌};
-ghost use Rattle.std.specs.Char.{digit_value};
-ghost use Rattle.notes.specs.Views.{bytes_of};
+ghost use Rattle.std.specs.Prelude.{◌≡◌, ℕ, ◌^◌, ◌<◌, ◌≤◌, ◌⊎◌, ◌↔◌, if◌then◌else◌, option_map, unwrap_or, [], IfOk, IfErr, IsOk, ◌+◌, IsErr, IsTrue, length, decimal, MatchResult, ◌≢◌};
+ghost use Rattle.hex.specs.Hex.{decode_of};
+ghost use Rattle.notes.specs.Views.{Numbers, bytes_of};
 ghost use Rattle.rehearsal.specs.Parties.{party_number, TakesPart};
-ghost use Rattle.rehearsal.specs.Words.{Spells};
+ghost use Rattle.rehearsal.specs.Words.{left_of, word_of, behind_word};
 
-use crate::party::{Party, ReaderId};
+use crate::party::Party;
+use crate::reader_id::ReaderId;
 use crate::script_error::ScriptError;
 use crate::way::Which;
 use notes::ids::{Edition, NoteId, PartyId, RoundNumber};
@@ -25,39 +26,40 @@ pub struct Words<'a> {
 }
 
 impl<'a> Words<'a> {
-    pub fn new(line: &'a str) -> Words<'a> {
+    pub fn new(line: &'a str) -> Words<'a>
+        ensures { left_of result ≡ Some line.now }
+    {
         Words { rest: Some(line) }
     }
 
     /// The next word, if there is one.
-    pub fn next_word(&mut self) -> Option<&'a str> {
+    pub fn next_word(&mut self) -> Option<&'a str>
+        ensures word { option_map (λ w. w.now) result ≡ word_of (left_of self.old) }
+        ensures left { left_of self.new ≡ behind_word (left_of self.old) }
+    {
         let text = self.rest?;
-        match text.split_once(' ') {
-            Some((word, rest)) => {
-                self.rest = Some(rest);
-                Some(word)
-            }
-            None => {
-                self.rest = None;
-                Some(text)
-            }
-        }
+        let (word, rest) = match text.split_once(' ') {
+            Some((word, rest)) => (word, Some(rest)),
+            None => (text, None),
+        };
+        self.rest = rest;
+        Some(word)
     }
 
     /// The next word, which is to be there.
-    pub fn word(&mut self) -> Result<&'a str, ScriptError> {
-        match self.next_word() {
-            Some(word) => Ok(word),
-            None => Err(ScriptError::WordMissing),
-        }
+    pub fn word(&mut self) -> Result<&'a str, ScriptError>
+        ensures word { MatchResult result (λ w. word_of (left_of self.old) ≡ Some w.now) (λ _. left_of self.old ≡ None) }
+        ensures left { left_of self.new ≡ behind_word (left_of self.old) }
+    {
+        self.next_word().ok_or(ScriptError::WordMissing)
     }
 
     /// Reads this word, if it is all that is left.
-    pub fn is_last(&mut self, word: &str) -> bool {
-        let is_last = match self.rest {
-            Some(rest) => rest == word,
-            None => false,
-        };
+    pub fn is_last(&mut self, word: &str) -> bool
+        ensures is { IsTrue result ↔ (left_of self.old ≡ Some word.now) }
+        ensures left { left_of self.new ≡ if result then None else left_of self.old }
+    {
+        let is_last = self.rest == Some(word);
         if is_last {
             self.rest = None;
         }
@@ -65,62 +67,67 @@ impl<'a> Words<'a> {
     }
 
     /// Nothing is to follow.
-    pub fn end(&self) -> Result<(), ScriptError> {
+    pub fn end(&self) -> Result<(), ScriptError>
+        ensures { IsOk result ↔ (left_of self.now ≡ None) }
+    {
         match self.rest {
             Some(_) => Err(ScriptError::TooManyWords),
             None => Ok(()),
         }
     }
 
-    pub fn number(&mut self) -> Result<u64, ScriptError> {
+    pub fn number(&mut self) -> Result<u64, ScriptError>
+        ensures number { MatchResult result (λ n. word_of (left_of self.old) ≡ Some (decimal n)) (λ _. (n : ℕ) → n < 2 ^ 64 → word_of (left_of self.old) ≢ Some (decimal n)) }
+        ensures left { left_of self.new ≡ behind_word (left_of self.old) }
+    {
         number_of(self.word()?)
     }
 
     /// How many wardens there are, and how many of them may lie.
     pub fn quorum(&mut self) -> Result<Quorum, ScriptError>
-        ensures { IfOk result (λ q. q.wardens ≤ 9) }
+        ensures few { IfOk result (λ q. q.wardens ≤ 9) }
+        ensures numbers { IfOk result (λ q. (word_of (left_of self.old) ≡ Some (decimal q.wardens)) × (word_of (behind_word (left_of self.old)) ≡ Some (decimal q.faults))) }
+        ensures refused { IfErr result (λ _. (n f : ℕ) → Numbers n f → n ≤ 9 → word_of (left_of self.old) ≡ Some (decimal n) → word_of (behind_word (left_of self.old)) ≡ Some (decimal f) → ⊥) }
     {
         let wardens = self.number()?;
         let faults = self.number()?;
         if wardens > MOST_WARDENS || faults > MOST_WARDENS {
             return Err(ScriptError::WrongNumbers);
         }
-        match Quorum::new(wardens as u8, faults as u8) {
-            Some(quorum) => Ok(quorum),
-            None => Err(ScriptError::WrongNumbers),
-        }
+        Quorum::new(wardens as u8, faults as u8).ok_or(ScriptError::WrongNumbers)
     }
 
     pub fn party(&mut self) -> Result<Party, ScriptError> {
         party_of(self.word()?)
     }
 
-    pub fn warden(&mut self) -> Result<WardenId, ScriptError> {
-        let Ok(party) = party_at(self.number()?) else {
-            return Err(ScriptError::NoSuchWarden);
-        };
-        match party {
-            Party::Warden(warden) => Ok(warden),
-            Party::Office | Party::Reader(_) => Err(ScriptError::NoSuchWarden),
+    pub fn warden(&mut self) -> Result<WardenId, ScriptError>
+        ensures number { IfOk result (λ w. word_of (left_of self.old) ≡ Some (decimal w.index)) }
+        ensures left { left_of self.new ≡ behind_word (left_of self.old) }
+    {
+        match party_at(self.number()?) {
+            Ok(Party::Warden(warden)) => Ok(warden),
+            _ => Err(ScriptError::NoSuchWarden),
         }
     }
 
-    pub fn reader(&mut self) -> Result<ReaderId, ScriptError> {
-        let Ok(party) = party_at(self.number()?) else {
-            return Err(ScriptError::NoSuchReader);
-        };
-        match party {
-            Party::Reader(reader) => Ok(reader),
-            Party::Office | Party::Warden(_) => Err(ScriptError::NoSuchReader),
+    pub fn reader(&mut self) -> Result<ReaderId, ScriptError>
+        ensures number { IfOk result (λ r. word_of (left_of self.old) ≡ Some (decimal (65 + r.index))) }
+        ensures left { left_of self.new ≡ behind_word (left_of self.old) }
+    {
+        match party_at(self.number()?) {
+            Ok(Party::Reader(reader)) => Ok(reader),
+            _ => Err(ScriptError::NoSuchReader),
         }
     }
 
     /// The number of a note.
-    pub fn note_id(&mut self) -> Result<NoteId, ScriptError> {
-        match u32::try_from(self.number()?) {
-            Ok(number) => Ok(NoteId(number)),
-            Err(_) => Err(ScriptError::NoSuchNote),
-        }
+    pub fn note_id(&mut self) -> Result<NoteId, ScriptError>
+        ensures number { IfOk result (λ k. word_of (left_of self.old) ≡ Some (decimal k.0)) }
+        ensures left { left_of self.new ≡ behind_word (left_of self.old) }
+    {
+        let number = u32::try_from(self.number()?).map_err(|_| ScriptError::NoSuchNote)?;
+        Ok(NoteId(number))
     }
 
     /// A number, or two parties.
@@ -133,7 +140,9 @@ impl<'a> Words<'a> {
     }
 
     /// The bytes that the last word of a line writes; no bytes are no word.
-    pub fn value(&mut self) -> Result<Value, ScriptError> {
+    pub fn value(&mut self) -> Result<Value, ScriptError>
+        ensures { IfOk result (λ v. decode_of (unwrap_or (word_of (left_of self.old)) []) ≡ Ok (bytes_of v)) }
+    {
         match self.next_word() {
             None => value_of(b""),
             Some("") => Err(ScriptError::BytesExpected),
@@ -143,9 +152,10 @@ impl<'a> Words<'a> {
 
     /// An edition and its value.
     pub fn note(&mut self) -> Result<Note, ScriptError> {
-        let edition = Edition(self.number()?);
-        let value = self.value()?;
-        Ok(Note { edition, value })
+        Ok(Note {
+            edition: Edition(self.number()?),
+            value: self.value()?,
+        })
     }
 
     /// A message, after the note that it is about.
@@ -168,13 +178,8 @@ impl<'a> Words<'a> {
 fn party_at(number: u64) -> Result<Party, ScriptError>
     ensures { MatchResult result (λ p. party_number p ≡ number) (λ _. TakesPart number → ⊥) }
 {
-    let Ok(id) = u32::try_from(number) else {
-        return Err(ScriptError::NoSuchParty);
-    };
-    match Party::of(PartyId(id)) {
-        Some(party) => Ok(party),
-        None => Err(ScriptError::NoSuchParty),
-    }
+    let id = u32::try_from(number).map_err(|_| ScriptError::NoSuchParty)?;
+    Party::try_from(PartyId(id))
 }
 
 /// The party that a word names.
@@ -182,9 +187,7 @@ pub fn party_of(word: &str) -> Result<Party, ScriptError> {
     if word == "office" {
         return Ok(Party::Office);
     }
-    let Ok(number) = number_of(word) else {
-        return Err(ScriptError::PartyExpected);
-    };
+    let number = number_of(word).map_err(|_| ScriptError::PartyExpected)?;
     match party_at(number)? {
         Party::Office => Err(ScriptError::NoSuchParty),
         party => Ok(party),
@@ -195,38 +198,18 @@ pub fn party_of(word: &str) -> Result<Party, ScriptError> {
 fn number_of(word: &str) -> Result<u64, ScriptError>
     ensures { MatchResult result (λ n. word.now ≡ decimal n) (λ _. (n : ℕ) → n < 2 ^ 64 → word.now ≢ decimal n) }
 {
-    let digits = word.as_bytes();
-    if digits.len() == 0 {
+    if word.starts_with('+') {
         return Err(ScriptError::NumberExpected);
     }
-    let first = digits[0];
-    if first == b'+' {
+    if word.starts_with('0') && word.len() > 1 {
         return Err(ScriptError::NumberExpected);
     }
-    if first == b'0' && digits.len() > 1 {
-        return Err(ScriptError::NumberExpected);
-    }
-    match word.parse::<u64>() {
-        Ok(number) => Ok(number),
-        Err(_) => Err(ScriptError::NumberExpected),
-    }
-}
-
-// The value of a hexadecimal digit.
-fn digit_of(digit: u8) -> Result<u8, ScriptError>
-    ensures { MatchResult result (λ d. (d ≡ digit_value digit) × (d < 16)) (λ _. 16 ≤ digit_value digit) }
-{
-    match digit {
-        b'0'..=b'9' => Ok(digit - b'0'),
-        b'a'..=b'f' => Ok(digit - b'a' + 10),
-        b'A'..=b'F' => Ok(digit - b'A' + 10),
-        _ => Err(ScriptError::BytesExpected),
-    }
+    word.parse().map_err(|_| ScriptError::NumberExpected)
 }
 
 // The bytes that hexadecimal digits write, two of them each.
 fn value_of(digits: &[u8]) -> Result<Value, ScriptError>
-    ensures { IfOk result (λ v. Spells digits.now (bytes_of v)) }
+    ensures { MatchResult result (λ v. decode_of digits.now ≡ Ok (bytes_of v)) (λ _. IsErr (decode_of digits.now) ⊎ (128 < length digits.now)) }
 {
     if digits.len() % 2 != 0 {
         return Err(ScriptError::BytesExpected);
@@ -235,12 +218,8 @@ fn value_of(digits: &[u8]) -> Result<Value, ScriptError>
     if length > LONGEST {
         return Err(ScriptError::ValueTooLong);
     }
-    let mut bytes = [0; 64];
-    for place in 0..length {
-        let high = digit_of(digits[2 * place])?;
-        let low = digit_of(digits[2 * place + 1])?;
-        bytes[place] = 16 * high + low;
-    }
+    let mut bytes = [0; LONGEST];
+    hex::decode_to_slice(digits, &mut bytes[..length]).map_err(|_| ScriptError::BytesExpected)?;
     Ok(Value {
         length: length as u8,
         bytes,

@@ -1,10 +1,9 @@
 // Plays a script from the standard input, and prints its transcript.
 #![tactic(auto)]
 
-ghost use Rattle.std.specs.Prelude.{◌≡◌, ℕ, ◌<◌, ◌≤◌, length, vec_len, ◌≢◌, nat_lt, slice_index};
+ghost use Rattle.std.specs.Prelude.{◌≤◌, vec_len};
 
 use rehearsal::rehearsal::Rehearsal;
-use std::alloc::AllocError;
 use std::io::{BufRead, BufReader, Stdin, Write};
 use std::process::ExitCode;
 use std::{env, io};
@@ -37,54 +36,34 @@ Parties are office, a warden's number, a reader's number.
 ";
 
 // What was read of the input.
-#[derive(Clone, Copy)]
+#[derive(Clone, Copy, PartialEq, Eq)]
 enum Got {
     Line,
     LongLine,
     End,
 }
 
-// How many bytes stand before the first line break, and whether there is one.
-fn up_to_break(held: &[u8]) -> (usize, bool)
-    ensures within { result.0 ≤ length held.now }
-    ensures before { (k : ℕ) → k < result.0 → slice_index held.now k ≢ 10 }
-    ensures found { result.0 < length held.now → slice_index held.now result.0 ≡ 10 }
-    ensures whole { result.1 ≡ nat_lt result.0 (length held.now) }
+// Reads the next line, without its break. Of one that is too long the rest is passed over.
+fn next_line(input: &mut BufReader<Stdin>, line: &mut Vec<u8>) -> io::Result<Got>
+    ensures { vec_len line.new ≤ 4096 }
 {
-    for (place, byte) in held.iter().enumerate() {
-        if *byte == b'\n' {
-            return (place, true);
-        }
-    }
-    (held.len(), false)
-}
-
-// Adds to a line, unless it then is too long.
-fn keep(line: &mut Vec<u8>, more: &[u8]) -> Result<bool, AllocError>
-    ensures { vec_len line.old ≤ 4096 → vec_len line.new ≤ 4096 }
-{
-    if more.len() > LONGEST_LINE.saturating_sub(line.len()) {
-        return Ok(false);
-    }
-    line.extend_from_slice(more)?;
-    Ok(true)
-}
-
-// Reads the next line, without its break. Of one that is too long nothing is kept.
-fn next_line(input: &mut BufReader<Stdin>, line: &mut Vec<u8>) -> io::Result<Got> {
     line.clear();
-    let mut is_long = false;
     let mut got = Got::End;
     for _ in 0..u64::MAX {
         let held = input.fill_buf()?;
-        if held.len() == 0 {
+        if held.is_empty() {
             break;
         }
-        let (length, is_whole) = up_to_break(held);
-        is_long = is_long || !keep(line, &held[0..length])?;
-        got = if is_long { Got::LongLine } else { Got::Line };
+        let line_break = held.iter().position(|&byte| byte == b'\n');
+        let length = line_break.unwrap_or(held.len());
+        if got == Got::LongLine || length > LONGEST_LINE - line.len() {
+            got = Got::LongLine;
+        } else {
+            line.extend_from_slice(&held[..length])?;
+            got = Got::Line;
+        }
         input.consume(length);
-        if is_whole {
+        if line_break.is_some() {
             input.consume(1);
             break;
         }

@@ -1,4 +1,4 @@
-use Rattle.std.proofs.Common.{◌<◌, vec_items, vec_len, refl, ap, ◌∙◌, arith, rules}
+use Rattle.std.proofs.Common.{◌<◌, vec_items, vec_len, ap, ◌∙◌, arith, rules}
 use Rattle.register.specs.Count.{put}
 use Rattle.register.specs.Note.{Note, none}
 use Rattle.protocol_tables.specs.Keep.{Keep, empty}
@@ -7,15 +7,9 @@ use Rattle.rehearsal.specs.Casts.{keeps_of}
 use Rattle.rehearsal.proofs.Places.{set_put}
 use Rattle.rehearsal.proofs.cast.Cast.forget.Goals as goal
 
-pub returns : goal.returns
-returns c =
+pub returns-clause-wardens : goal.returns-clause-wardens
+returns-clause-wardens c =
     let i = c.args.warden.index in
     let ws = c.args.self.now.wardens in
     let inside : i < vec_len ws = search rules in
-    record {
-      wardens = (inside, set_put notes_of (vec_items ws) i c.new.result (empty none) (omega (arith, inside, ws.ok.0)) ∙ ap (λ (k : Keep Note). put i k (keeps_of (vec_items ws))) c.new.ensures);
-      count = refl;
-      office = refl;
-      readers = refl;
-      liars = refl;
-    }
+    (inside, set_put notes_of (vec_items ws) i c.new.result (empty none) (omega (arith, inside, ws.ok.0)) ∙ ap (λ (k : Keep Note). put i k (keeps_of (vec_items ws))) c.new.ensures)
