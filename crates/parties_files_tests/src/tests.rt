@@ -4,9 +4,9 @@ use notes::ids::{Edition, NoteId, OFFICE, PartyId, RoundNumber};
 use notes::note::Note;
 use notes::quorum::Quorum;
 use notes::value::Value;
-use parties::message::Message;
+use parties::message::{Incoming, Message};
 use parties::refusal::Refusal;
-use parties::step::{OfficeOutcome, WardenOutcome};
+use parties::step::{OfficeDone, WardenDone, WardenOutcome};
 use parties_files::office::Office;
 use parties_files::warden::Warden;
 use std::alloc::Global;
@@ -20,28 +20,19 @@ use storage::storage::Storage;
 const ROUTE: NoteId = NoteId(7);
 
 fn note(edition: u64, value: &[u8]) -> Result<Note, Fail> {
-    let Some(value) = Value::new(value) else {
-        return Err(Fail::new("too long"));
-    };
     Ok(Note {
         edition: Edition(edition),
-        value,
+        value: Value::new(value).ok_or_else(|| Fail::new("too long"))?,
     })
 }
 
 fn five_wardens() -> Result<Quorum, Fail> {
-    match Quorum::new(5, 1) {
-        Some(quorum) => Ok(quorum),
-        None => Err(Fail::new("no such quorum")),
-    }
+    Quorum::new(5, 1).ok_or_else(|| Fail::new("no such quorum"))
 }
 
 // A storage never fails here unless its fuse has burnt down.
 fn done<T>(res: Result<T, Fault>) -> Result<T, Fail> {
-    match res {
-        Ok(value) => Ok(value),
-        Err(_) => Err(Fail::new("a storage failed")),
-    }
+    res.map_err(|_| Fail::new("a storage failed"))
 }
 
 // The file of a warden has a record of this edition.
@@ -57,12 +48,16 @@ fn opened(heap: Global, disk: &mut Memory) -> Result<(Warden, Opening), Fail> {
 }
 
 fn take(warden: &mut Warden, disk: &mut Memory, edition: u64) -> Result<WardenOutcome, Fail> {
-    let message = Message::Take(note(edition, b"open")?);
-    done(warden.on(disk, PartyId(OFFICE), ROUTE, message))
+    let incoming = Incoming {
+        from: OFFICE,
+        note: ROUTE,
+        message: Message::Take(note(edition, b"open")?),
+    };
+    done(warden.on(disk, incoming))
 }
 
 fn has_edition(rt: &impl Abort, warden: &Warden, edition: u64) {
-    assert_eq!(rt; warden.notes.note(ROUTE).edition.0, edition);
+    assert_eq!(rt; warden.notes.note(ROUTE).edition, Edition(edition));
 }
 
 #[test]
@@ -71,8 +66,13 @@ fn file_of_no_bytes(rt: HostRuntime) -> Result<(), Fail> {
     let (mut warden, opening) = opened(rt.alloc(), &mut disk)?;
     assert_eq!(rt; opening.cut, 0);
     assert!(rt; !opening.damaged);
-    let asked = warden.on(&mut disk, PartyId(65), ROUTE, Message::Ask(RoundNumber(1)));
-    assert!(rt; matches!(done(asked)?, WardenOutcome::Answered));
+    let incoming = Incoming {
+        from: PartyId(65),
+        note: ROUTE,
+        message: Message::Ask(RoundNumber(1)),
+    };
+    let asked = done(warden.on(&mut disk, incoming))?;
+    assert_eq!(rt; asked, Ok(WardenDone::Answered));
     assert_eq!(rt; disk.outlet.len(), 0);
     done(warden.flush(&mut disk))?;
     assert_eq!(rt; disk.outlet.len(), 1);
@@ -170,22 +170,17 @@ fn the_office_goes_on_with_its_edition(rt: HostRuntime) -> Result<(), Fail> {
     let mut office = Office::new(rt.alloc(), five_wardens()?);
     let _ = done(office.start(&mut disk))?;
     let value = note(1, b"shut")?.value;
-    assert!(rt;
-        matches!(
-            done(office.write(&mut disk, ROUTE, value))?,
-            OfficeOutcome::Begun
-        )
-    );
+    let written = done(office.write(&mut disk, ROUTE, value))?;
+    assert_eq!(rt; written, Ok(OfficeDone::Begun));
     assert_eq!(rt; disk.outlet.len(), 5);
     disk.fall(Fall::Cut { kept: 0 });
     let mut office = Office::new(rt.alloc(), five_wardens()?);
     let _ = done(office.start(&mut disk))?;
     let desk = office.desks.desk(ROUTE);
     assert!(rt; desk.busy);
-    assert_eq!(rt; desk.now.edition.0, 1);
-    assert!(rt; desk.now.value.bytes() == b"shut".as_slice());
+    assert!(rt; desk.now == note(1, b"shut")?);
     let refused = done(office.write(&mut disk, ROUTE, value))?;
-    assert!(rt; matches!(refused, OfficeOutcome::Refused(Refusal::NotNow)));
+    assert_eq!(rt; refused, Err(Refusal::NotNow));
     Ok(())
 }
 

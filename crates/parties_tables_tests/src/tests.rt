@@ -11,14 +11,15 @@ use parties_tables::warden::Warden;
 use std::process::Abort;
 use std::test::Fail;
 
+fn value(byte: u8) -> Result<Value, Fail> {
+    Value::new(&[byte]).ok_or_else(|| Fail::new("too long"))
+}
+
 fn note(edition: u64, byte: u8) -> Result<Note, Fail> {
-    match Value::new(&[byte]) {
-        Some(value) => Ok(Note {
-            edition: Edition(edition),
-            value,
-        }),
-        None => Err(Fail::new("too long")),
-    }
+    Ok(Note {
+        edition: Edition(edition),
+        value: value(byte)?,
+    })
 }
 
 // A message comes from the office; there is memory.
@@ -95,18 +96,13 @@ fn the_4097th_note_is_turned_away(rt: HostRuntime) -> Result<(), Fail> {
 }
 
 fn office(rt: &HostRuntime) -> Result<Office, Fail> {
-    match Quorum::new(5, 1) {
-        Some(quorum) => Ok(Office::new(rt.alloc(), quorum)),
-        None => Err(Fail::new("no such quorum")),
-    }
+    let quorum = Quorum::new(5, 1).ok_or_else(|| Fail::new("no such quorum"))?;
+    Ok(Office::new(rt.alloc(), quorum))
 }
 
 fn write(office: &mut Office, number: u32, byte: u8) -> Result<OfficeStep, Fail> {
-    let Some(value) = Value::new(&[byte]) else {
-        return Err(Fail::new("too long"));
-    };
     office
-        .write(NoteId(number), value)
+        .write(NoteId(number), value(byte)?)
         .map_err(|_| Fail::new("no memory"))
 }
 

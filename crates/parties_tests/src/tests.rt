@@ -13,17 +13,11 @@ use std::process::Abort;
 use std::test::Fail;
 
 fn quorum(wardens: u8, faults: u8) -> Result<Quorum, Fail> {
-    match Quorum::new(wardens, faults) {
-        Some(quorum) => Ok(quorum),
-        None => Err(Fail::new("no such quorum")),
-    }
+    Quorum::new(wardens, faults).ok_or_else(|| Fail::new("no such quorum"))
 }
 
 fn value(bytes: &[u8]) -> Result<Value, Fail> {
-    match Value::new(bytes) {
-        Some(value) => Ok(value),
-        None => Err(Fail::new("too long")),
-    }
+    Value::new(bytes).ok_or_else(|| Fail::new("too long"))
 }
 
 fn note(edition: u64, bytes: &[u8]) -> Result<Note, Fail> {
