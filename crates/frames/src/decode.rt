@@ -27,7 +27,7 @@ struct Head<'a> {
 }
 
 /// A frame and the bytes that follow it.
-#[derive(Clone, Copy)]
+#[derive(Clone, Copy, PartialEq, Eq, Debug)]
 pub struct Front<'a> {
     pub frame: Frame<'a>,
     pub rest: &'a [u8],

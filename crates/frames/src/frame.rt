@@ -6,7 +6,7 @@ use crate::kind::Kind;
 use notes::ids::{Edition, NoteId, RoundNumber};
 
 /// What a frame says. A value is a part of the bytes that were read.
-#[derive(Clone, Copy)]
+#[derive(Clone, Copy, PartialEq, Eq, Debug)]
 pub enum Frame<'a> {
     Take {
         note: NoteId,

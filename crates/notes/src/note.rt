@@ -7,7 +7,7 @@ use crate::ids::Edition;
 use crate::value::Value;
 
 /// What was written under an edition.
-#[derive(Clone, Copy, PartialEq, Eq)]
+#[derive(Clone, Copy, PartialEq, Eq, Debug)]
 pub struct Note {
     pub edition: Edition,
     pub value: Value,

@@ -53,6 +53,7 @@ impl Quorum {
         ensures bound { result ≤ self.now.wardens }
     {
         let mut all = 0;
+        // These are the wardens themselves: a chain would have to make a `WardenId` of a number that it does not know to be small.
         for index in 0..self.wardens {
             if test(WardenId { index }) {
                 all += 1;

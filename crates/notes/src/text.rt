@@ -1,4 +1,4 @@
-// How notes, their numbers, and those who write and keep them are printed.
+// How notes, their numbers, and those who write and keep them are printed. No library derives this for a struct round a number.
 ghost use Rattle.std.specs.Prelude.{Some, decimal};
 ghost use Rattle.notes.specs.Texts.{party_text, value_text, note_text};
 

@@ -7,7 +7,7 @@ ghost use Rattle.std.proofs.Common.{rules};
 pub const LONGEST: usize = 64;
 
 /// Up to 64 bytes, in place. What stands past the length is no part of it.
-#[derive(Clone, Copy)]
+#[derive(Clone, Copy, Debug)]
 pub struct Value {
     pub length: u8,
     pub bytes: [u8; 64],

@@ -17,7 +17,8 @@ use notes::warden_id::WardenId;
 use notes::warden_set::WardenSet;
 
 /// The note of the last edition begun, whether its writing is under way, and who has said that it took it.
-#[derive(Clone, Copy)]
+// Who has taken it stays once the writing has ended, so `acks` stands beside `busy`.
+#[derive(Clone, Copy, PartialEq, Eq, Debug)]
 pub struct Desk {
     pub now: Note,
     pub busy: bool,

@@ -2,7 +2,7 @@
 use notes::ids::{Edition, NoteId, PartyId, RoundNumber};
 use notes::note::Note;
 
-#[derive(Clone, Copy, PartialEq, Eq)]
+#[derive(Clone, Copy, PartialEq, Eq, Debug)]
 pub enum Message {
     /// The office to a warden: take this note.
     Take(Note),
@@ -15,7 +15,7 @@ pub enum Message {
 }
 
 /// A message about a note, and from whom it comes.
-#[derive(Clone, Copy, PartialEq, Eq)]
+#[derive(Clone, Copy, PartialEq, Eq, Debug)]
 pub struct Incoming {
     pub from: PartyId,
     pub note: NoteId,
@@ -23,7 +23,7 @@ pub struct Incoming {
 }
 
 /// What a party sends at once.
-#[derive(Clone, Copy, PartialEq, Eq)]
+#[derive(Clone, Copy, PartialEq, Eq, Debug)]
 pub enum Sends {
     Nothing,
     One(PartyId, Message),

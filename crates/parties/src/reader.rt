@@ -19,6 +19,7 @@ use notes::warden_id::WardenId;
 pub const MORE_ROUNDS: u8 = 19;
 
 /// Whether it is reading, which note, how many more rounds of this reading it may begin, the number of the next round, and the present round.
+// The last note and round stay once it no longer reads, so they stand beside `busy`.
 #[derive(Clone, Copy)]
 pub struct Reader {
     pub quorum: Quorum,

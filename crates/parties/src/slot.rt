@@ -15,13 +15,13 @@ use notes::ids::{Edition, OFFICE, PartyId, RoundNumber};
 use notes::note::Note;
 
 /// What it has of the note; at first nothing.
-#[derive(Clone, Copy)]
+#[derive(Clone, Copy, PartialEq, Eq, Debug)]
 pub struct Slot {
     pub held: Note,
 }
 
 /// How a message stands to the note that is held: whether the edition that it speaks of is above.
-#[derive(Clone, Copy)]
+#[derive(Clone, Copy, PartialEq, Eq, Debug)]
 pub enum Standing {
     Above,
     NotAbove,

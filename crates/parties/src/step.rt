@@ -28,7 +28,7 @@ pub enum OfficeDone {
     Ended,
 }
 
-#[derive(Clone, Copy, PartialEq, Eq)]
+#[derive(Clone, Copy, PartialEq, Eq, Debug)]
 pub enum ReaderDone {
     /// It began to read a note.
     Asked,
@@ -56,7 +56,7 @@ pub type OfficeOutcome = Result<OfficeDone, Refusal>;
 pub type ReaderOutcome = Result<ReaderDone, Refusal>;
 
 /// What a party came to, and what it sends at once. It may send something also where it refuses.
-#[derive(Clone, Copy, PartialEq, Eq)]
+#[derive(Clone, Copy, PartialEq, Eq, Debug)]
 pub struct Step<D> {
     pub outcome: Result<D, Refusal>,
     pub sends: Sends,

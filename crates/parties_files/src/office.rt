@@ -36,6 +36,7 @@ use storage::storage::Storage;
 pub struct Office {
     pub heap: Global,
     pub desks: Desks,
+    // By the rules a party has a memory also while it is down, so this stands beside it.
     pub up: bool,
     /// The bytes of a record on its way to the file.
     pub encoded: Vec<u8>,

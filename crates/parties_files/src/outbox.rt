@@ -72,8 +72,9 @@ pub fn send_each<S: Storage>(
     ensures state { S.Storage.state store.new ≡ S.Storage.state store.old }
     ensures sent { MatchResult result (λ _. S.Storage.sent store.new ≡ S.Storage.sent store.old ++ each wardens note.0 (message_of message)) (λ _. (k : ℕ) × (S.Storage.sent store.new ≡ S.Storage.sent store.old ++ take k (each wardens note.0 (message_of message)))) }
 {
-    for i in 0..wardens {
-        let to = PartyId(i as u32);
+    // These are the numbers of parties.
+    for to in 0..wardens {
+        let to = PartyId(to as u32);
         store.send(Outgoing { to, note, message })?;
     }
     Ok(())

@@ -39,6 +39,7 @@ pub struct Warden {
     pub heap: Global,
     pub notes: Notes,
     pub outbox: Vec<Outgoing>,
+    // By the rules a party has a memory also while it is down, so this stands beside it.
     pub up: bool,
     /// The bytes of a record on its way to the file.
     pub encoded: Vec<u8>,

@@ -148,6 +148,7 @@ impl Office {
     fn letters(&self, heap: Global) -> Result<Vec<Letter>, AllocError>
         ensures { IfOk result (λ letters. map letter_of letters.items ≡ (office_ticks (office_of self.now)).letters) }
     {
+        // Of a desk only what the rules see of it is known, so no chain can say which letters these are.
         let mut letters = Vec::new(heap);
         for number in &self.under_way {
             letters.push(self.again(*number))?;

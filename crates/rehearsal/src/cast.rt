@@ -32,7 +32,7 @@ pub struct Cast {
     pub liars: WardenSet,
 }
 
-// So many wardens that have nothing.
+// So many wardens that have nothing. Of a new one only what it has is known, of which no chain can speak: so this is a loop.
 fn new_wardens(heap: Global, count: u8) -> Result<Vec<Warden>, AllocError>
     ensures { IfOk result (λ ws. (vec_len ws ≡ count) × (keeps_of ws.items ≡ (λ i. empty none))) }
 {

@@ -14,7 +14,7 @@ use notes::warden_id::WardenId;
 use parties::message::Message;
 
 /// What a line of a script is.
-#[derive(Clone, Copy)]
+#[derive(Clone, Copy, PartialEq, Eq, Debug)]
 pub enum Line {
     Blank,
     Remark,
@@ -23,7 +23,7 @@ pub enum Line {
     Do(Command),
 }
 
-#[derive(Clone, Copy)]
+#[derive(Clone, Copy, PartialEq, Eq, Debug)]
 pub enum Command {
     /// A warden lies from now on.
     Liar(WardenId),
@@ -44,7 +44,7 @@ pub enum Command {
 }
 
 /// What a liar sends, about which note and to whom.
-#[derive(Clone, Copy)]
+#[derive(Clone, Copy, PartialEq, Eq, Debug)]
 pub struct Saying {
     pub liar: WardenId,
     pub to: Party,

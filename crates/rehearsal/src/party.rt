@@ -8,7 +8,7 @@ use crate::script_error::ScriptError;
 use notes::ids::{OFFICE, PartyId};
 use notes::warden_id::WardenId;
 
-#[derive(Clone, Copy)]
+#[derive(Clone, Copy, PartialEq, Eq, Debug)]
 pub enum Party {
     Office,
     Warden(WardenId),

@@ -44,7 +44,7 @@ pub struct Stage {
 }
 
 /// To whom a message came, and what it came to there.
-#[derive(Clone, Copy)]
+#[derive(Clone, Copy, PartialEq, Eq, Debug)]
 pub enum Arrival {
     Office(OfficeOutcome),
     Warden(WardenOutcome),

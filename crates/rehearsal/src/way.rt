@@ -11,7 +11,7 @@ use std::alloc::{AllocError, Global};
 use std::fmt;
 
 /// A message on its way, about a note. Its number is its place among all that were ever sent.
-#[derive(Clone, Copy)]
+#[derive(Clone, Copy, PartialEq, Eq, Debug)]
 pub struct Packet {
     pub number: u64,
     pub from: PartyId,
@@ -21,7 +21,7 @@ pub struct Packet {
 }
 
 /// Which message is meant: the one of a number, or the first on its way between two parties.
-#[derive(Clone, Copy)]
+#[derive(Clone, Copy, PartialEq, Eq, Debug)]
 pub enum Which {
     Number(u64),
     Between(Party, Party),

@@ -49,6 +49,7 @@ fn next_line(input: &mut BufReader<Stdin>, line: &mut Vec<u8>) -> io::Result<Got
 {
     line.clear();
     let mut got = Got::End;
+    // A loop that waits for input has to have a bound.
     for _ in 0..u64::MAX {
         let held = input.fill_buf()?;
         if held.is_empty() {

@@ -3,7 +3,7 @@ use notes::ids::{NoteId, PartyId};
 use parties::message::Message;
 
 /// A message about a note, and to whom it goes.
-#[derive(Clone, Copy)]
+#[derive(Clone, Copy, PartialEq, Eq, Debug)]
 pub struct Outgoing {
     pub to: PartyId,
     pub note: NoteId,

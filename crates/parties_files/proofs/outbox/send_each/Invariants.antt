@@ -4,8 +4,8 @@ use Rattle.storage.specs.Changes.{Stays}
 use Rattle.parties_files.specs.Commits.{each}
 use Rattle.parties_files.proofs.outbox.send_each.Given as goal
 
-abbrev pub invariant-loop-i : goal.invariant-loop-i
-invariant-loop-i g l =
+abbrev pub invariant-loop-to : goal.invariant-loop-to
+invariant-loop-to g l =
     Stays g.S.Storage.holds l.initial.store l.store
     × (g.S.Storage.state l.store ≡ g.S.Storage.state l.initial.store)
-    × (g.S.Storage.sent l.store ≡ g.S.Storage.sent l.initial.store ++ each l.i l.note.0 (message_of l.message))
+    × (g.S.Storage.sent l.store ≡ g.S.Storage.sent l.initial.store ++ each l.to l.note.0 (message_of l.message))
