@@ -46,9 +46,16 @@ impl Trial {
         );
     }
 
+    // Makes a call, and says what came of it.
+    fn perform<F: FnOnce(&mut FileStorage) -> Result<(), Fault>>(&mut self, name: &str, call: F)
+        requires { F.IsAlwaysCallable call }
+    {
+        let done = call(&mut self.store);
+        self.say(name, done);
+    }
+
     pub fn append(&mut self, bytes: &[u8]) {
-        let done = self.store.append(bytes);
-        self.say("append", done);
+        self.perform("append", |store| store.append(bytes));
     }
 
     pub fn sync(&mut self) {
@@ -94,8 +101,7 @@ impl Trial {
     }
 
     pub fn cut_back(&mut self, kept: u64) {
-        let done = self.store.cut_back(kept);
-        self.say("cut back", done);
+        self.perform("cut back", |store| store.cut_back(kept));
     }
 
     pub fn set_aside(&mut self, place: u64) {
@@ -119,22 +125,18 @@ impl Trial {
     }
 
     pub fn write_beside(&mut self, bytes: &[u8]) {
-        let done = self.store.write_beside(bytes);
-        self.say("write beside", done);
+        self.perform("write beside", |store| store.write_beside(bytes));
     }
 
     pub fn sync_beside(&mut self) {
-        let done = self.store.sync_beside();
-        self.say("sync beside", done);
+        self.perform("sync beside", |store| store.sync_beside());
     }
 
     pub fn rename(&mut self) {
-        let done = self.store.rename();
-        self.say("rename", done);
+        self.perform("rename", |store| store.rename());
     }
 
     pub fn sync_folder(&mut self) {
-        let done = self.store.sync_folder();
-        self.say("sync folder", done);
+        self.perform("sync folder", |store| store.sync_folder());
     }
 }
