@@ -1,22 +1,16 @@
 -- What stands at a place of a list, seen through a function.
 -- Assumes nothing.
-use Rattle.std.proofs.Common.{◌≡◌, ℕ, zero, suc, ◌<◌, List, map, length, get_or, set, replicate, refl, ⊎_elim}
+use Rattle.std.proofs.Common.{◌≡◌, ℕ, zero, suc, ◌<◌, List, map, length, get_or, set, replicate, refl, arith}
 use mathlib.Core.Path.{fun_ext}
 use lib.ListN.{length-map}
-use Rattle.std.proofs.lemmas.List.{get_or-set_same, get_or-set_other, map-set}
-use Rattle.std.proofs.lemmas.Bool.{cases_eq, eq-eqb, ne_eqb}
+use Rattle.std.proofs.lemmas.List.{get_or-set_other, map-set}
+use Rattle.std.proofs.lemmas.Grind.{get_or-set_at}
 use Rattle.register.specs.Count.{put}
 
 module _ {A B : Type 0} (f : A → B) where
   -- the list with one place changed
   map_put : (xs : List A) (i : ℕ) (x : A) (d : B) → i < length xs → (j : ℕ) → get_or (map f (set xs i x)) j d ≡ put i (f x) (λ j. get_or (map f xs) j d) j
-  map_put xs i x d l j = rw (map-set f xs i x) (⊎_elim same other (cases_eq j i))
-    where
-      same : j ≡ i → get_or (set (map f xs) i (f x)) j d ≡ put i (f x) (λ j. get_or (map f xs) j d) j
-      same e = let l : i < length (map f xs) = rw (length-map xs f) l in rw (e, eq-eqb i i refl, get_or-set_same)
-
-      other : (j ≡ i → ⊥) → get_or (set (map f xs) i (f x)) j d ≡ put i (f x) (λ j. get_or (map f xs) j d) j
-      other apart = rw (ne_eqb j i apart, get_or-set_other (map f xs) i j (f x) d apart)
+  map_put xs i x d l j = let l : i < length (map f xs) = rw (length-map xs f) l in rw (map-set f xs i x) (grind (arith, get_or-set_at, get_or-set_other))
 
   pub set_put : (xs : List A) (i : ℕ) (x : A) (d : B) → i < length xs → ◌≡◌ {A = ℕ → B} (λ j. get_or (map f (set xs i x)) j d) (put i (f x) (λ j. get_or (map f xs) j d))
   set_put xs i x d l = fun_ext (map_put xs i x d l)

@@ -1,6 +1,6 @@
 -- As many numbers have something as there are numbers, and each number has what stands beside it.
 -- Assumes nothing.
-use Rattle.std.proofs.Common.{◌≡◌, ℕ, zero, suc, ◌+◌, ◌<◌, Bool, true, false, cond, eqb, List, [], ◌∷◌, length, get_or, is_some, Some, None, Option, refl, ap, ◌∙◌, ⊎_elim, arith, rules, Less}
+use Rattle.std.proofs.Common.{◌≡◌, ℕ, zero, suc, ◌+◌, ◌<◌, Bool, true, false, eqb, List, [], ◌∷◌, length, get_or, is_some, Some, None, Option, refl, ap, ◌∙◌, ⊎_elim, arith, rules, Less}
 use mathlib.Core.Path.{fun_ext}
 use Rattle.std.proofs.lemmas.Bool.{eq-eqb, ne_eqb, cases_eq}
 use Rattle.std.specs.Map.{lookup, keys_of}
@@ -60,17 +60,13 @@ module _ {T : Type 0} where
   absent k [] h = refl
   absent k (e ∷ es) h = rw (ne_eqb k.0 e.0.0 (λ same. omega (arith, less k.0 e.0.0 h.0)), absent k es h.1) refl
 
-  split : (b : Bool) (y : T) (o : Option T) → is_some (cond b (Some y) o) ≡ cond b true (is_some o)
-  split true y o = refl
-  split false y o = refl
-
   pub counted : (es : List (NoteId × T)) (n : ℕ) → Rising es → ((i : ℕ) (d : NoteId × T) → i < length es → (get_or es i d).0.0 < n) → count n (λ k. is_some (found es k)) ≡ length es
   unfolding IsStrictlySortedBy
   counted [] n rising low = nobody n
   counted (e ∷ es) n rising low =
       let rest : count n (λ k. is_some (found es k)) ≡ length es = counted es n rising.1 (λ i d l. low (suc i) d (omega arith)) in
       let new = absent e.0 es rising.0 in
-      ap (count n) (fun_ext (λ k. split (eqb k e.0.0) e.1 (found es k)))
+      ap (count n) (fun_ext (λ k. grind arith))
       ∙ one_more n e.0.0 (λ k. is_some (found es k)) (low 0 e (omega arith)) (ap is_some new)
       ∙ omega arith
 

@@ -12,16 +12,13 @@ use Rattle.notes_table.specs.declared.unplaced.Unplaced.{Unplaced}
 use Rattle.notes_table.specs.declared.unplaced.Unplaced.TheVariants.{Full, Memory}
 use Rattle.notes_table.proofs.Counted.{counted, placed}
 
-put_other : {A : Type 0} (k j : ℕ) (a : A) (f : ℕ → A) → (j ≡ k → ⊥) → put k a f j ≡ f j
-put_other k j a f other = rw (ne_eqb j k other) refl
-
 module _ {T : Type 0} where
   at : (j : ℕ) (f g : ℕ → Option T) → f ≡ g → f j ≡ g j
   at j f g e = ap (λ (h : ℕ → Option T). h j) e
 
   module _ (k j : ℕ) (w : T) (t u : Table T) where
     changed : map_of u ≡ put k (Some w) (map_of t) → (j ≡ k → ⊥) → map_of u j ≡ map_of t j
-    changed map other = at j (map_of u) (put k (Some w) (map_of t)) map ∙ put_other k j (Some w) (map_of t) other
+    changed map other = at j (map_of u) (put k (Some w) (map_of t)) map ∙ rw (ne_eqb j k other) refl
 
     others : (r : Result (Unit {0}) Unplaced) → Puts k w t u r → (j ≡ k → ⊥) → map_of u j ≡ map_of t j
     others (Ok x) (map, more, room) other = changed map other

@@ -1,6 +1,6 @@
 -- What is found in a table, before and after something is put there.
 -- Assumes nothing.
-use Rattle.std.proofs.Common.{◌≡◌, ℕ, ◌+◌, ◌<◌, ◌≤◌, Bool, true, false, cond, eqb, List, is_some, Some, None, Ok, Err, IfOk, OnErr, IsErrAnd, Option, Result, length, refl, sym, ap, ◌∙◌, arith, rules}
+use Rattle.std.proofs.Common.{◌≡◌, ℕ, ◌+◌, ◌<◌, ◌≤◌, Bool, false, cond, eqb, List, is_some, Some, None, Ok, Err, IfOk, OnErr, IsErrAnd, Option, Result, length, refl, sym, ap, ◌∙◌, arith, rules}
 use mathlib.Core.Path.{fun_ext}
 use Rattle.std.specs.BTreeMap.{BTreeMap, IsOrdered, get, is_at, btree_map_len}
 use Rattle.std.specs.Map.{lookup}
@@ -22,15 +22,6 @@ is_number a b = Prim.search rules
 
 is_changed : (a b : NoteId) → is_eq (cmp-value.it a b) ≡ eqb b.0 a.0
 is_changed a b = Prim.search rules
-
--- there is one more, unless b
-one_more : (b : Bool) (m n : ℕ) → n ≡ m + cond b 0 1 → n ≡ cond b m (m + 1)
-one_more true m n e = omega (arith, e)
-one_more false m n e = e
-
-at_most : (b : Bool) (m n : ℕ) → n ≡ m + cond b 0 1 → (b ≡ false → m < 4096) → m ≤ 4096 → n ≤ 4096
-at_most true m n e room few = omega (arith, e)
-at_most false m n e room few = omega (arith, e, room refl)
 
 module _ {T : Type 0} where
   pub looked : (k : NoteId) (es : List (NoteId × T)) → lookup (is_at (cmp-value.it k)) es ≡ lookup (λ n. eqb k.0 n.0) es
@@ -65,16 +56,17 @@ module _ {T : Type 0} where
   -- what comes of putting something under the number k, where there is a place for it
   module _ (k : NoteId) (t : Table T) (room : had t k.0 ≡ false → many t < 4096) where
     pub few_after : {E : Type 0} (n : BTreeMap NoteId T) (r : Result (Option T) E) → IfOk r (λ o. o ≡ get cmp-value.it t.notes k) → IfOk r (λ o. btree_map_len n ≡ many t + cond (is_some o) 0 1) → OnErr r (n.entries ≡ t.notes.entries) → btree_map_len n ≤ 4096
-    few_after n (Ok o) is len same = at_most (had t k.0) (many t) (btree_map_len n) (rw (had_by k t o is) at len) room t.few
+    few_after n (Ok o) is len same = let e = had_by k t o is in let few = t.few in grind arith
     few_after n (Err e) is len same = rw same t.few
 
     -- it is there, in place of what was had
-    pub put_in : (w : T) (u : Table T) → ((q : NoteId) → get cmp-value.it u.notes q ≡ cond (is_at (cmp-value.it k) q) (Some w) (get cmp-value.it t.notes q)) → (o : Option T) → o ≡ get cmp-value.it t.notes k → many u ≡ many t + cond (is_some o) 0 1 → Puts k.0 w t u (Ok tt)
-    put_in w u h o is len = (updated k w t.notes u.notes h, one_more (had t k.0) (many t) (many u) (rw (had_by k t o is) at len), room)
+    pub put_in : (w : T) (n : BTreeMap NoteId T) → ((q : NoteId) → get cmp-value.it n q ≡ cond (is_at (cmp-value.it k) q) (Some w) (get cmp-value.it t.notes q)) → (o : Option T) → o ≡ get cmp-value.it t.notes k → btree_map_len n ≡ many t + cond (is_some o) 0 1 →
+        (found n ≡ put k.0 (Some w) (found t.notes)) × (btree_map_len n ≡ cond (had t k.0) (many t) (many t + 1)) × (had t k.0 ≡ false → many t < 4096)
+    put_in w n h o is len = let e = had_by k t o is in (updated k w t.notes n h, grind arith, room)
 
     -- there is no memory
-    pub unplaced : (w : T) (u : Table T) (r : Result (Unit {0}) Unplaced) → IsErrAnd r (λ e. e ≡ Memory) → u.notes.entries ≡ t.notes.entries → get cmp-value.it t.notes k ≡ None → Puts k.0 w t u r
-    unplaced w u (Ok x) is same absent = absurd is
-    unplaced w u (Err e) is same absent =
+    pub unplaced : (w : T) (n : BTreeMap NoteId T) (rising : IsOrdered cmp-value.it n) (r : Result (Unit {0}) Unplaced) → IsErrAnd r (λ e. e ≡ Memory) → (same : n.entries ≡ t.notes.entries) → get cmp-value.it t.notes k ≡ None → Puts k.0 w t (made n rising (rw same t.few)) r
+    unplaced w n rising (Ok x) is same absent = absurd is
+    unplaced w n rising (Err e) is same absent =
         let new : false ≡ had t k.0 = had_by k t None (sym absent) in
         rw is ((ap (λ es. λ j. lookup (λ n. eqb j n.0) es) same, ap length same), sym new, room (sym new))

@@ -1,7 +1,6 @@
 pub mod WardenReplays
 pub mod OfficeReplays
 pub mod Each
-pub mod Conditions
 pub mod OfficeSteps
 pub mod WardenPromises
 pub mod OfficePromises

@@ -11,19 +11,11 @@ loop-to-init g c =
     let before = g.S.Storage.sent c.args.store.now in
     (λ d h. h, refl, sym (append-nil before) ∙ ap (λ (s : List Parcel). before ++ s) (sym (each_none c.args.note.0 (message_of c.args.message))))
 
-pub returns-in_err-send : goal.returns-in_err-send
-returns-in_err-send g c =
-    let before = g.S.Storage.sent c.args.store.now in
-    let (stays, state, sent) = c.loop-to.invariant in
-    let fails = c.in_err-send.ensures in
-    let i = c.loop-to.to in
-    let k = c.args.note.0 in
-    let m = message_of c.args.message in
-    record {
-      disk = λ d h. fails.disk d (stays d h);
-      state = fails.state ∙ state;
-      sent = let p = err_from_is_err_and c.from_residual.result c.from_residual.ensures.1 in rw p.1 (i, fails.sent ∙ sent ∙ ap (λ (s : List Parcel). before ++ s) (sym (each_front k m c.args.wardens i (omega arith))));
-    }
+pub returns-in_err-send-clause-sent : goal.returns-in_err-send-clause-sent
+returns-in_err-send-clause-sent g c =
+    let (_, _, sent) = c.loop-to.invariant in
+    let failed = err_from_is_err_and c.from_residual.result c.from_residual.ensures.1 in
+    rw failed.1 (c.loop-to.to, c.in_err-send.ensures.sent ∙ sent ∙ ap (λ (s : List Parcel). g.S.Storage.sent c.args.store.now ++ s) (sym (each_front c.args.note.0 (message_of c.args.message) c.args.wardens c.loop-to.to (omega arith))))
 
 pub loop-to-preserved : goal.loop-to-preserved
 loop-to-preserved g c =

@@ -3,4 +3,4 @@ use Rattle.notes.proofs.Words.{word_put}
 use Rattle.notes.proofs.warden_set.WardenSet.with.Goals as goal
 
 pub returns : goal.returns
-returns c = word_put c.args.self.bits c.args.warden.index (omega arith)
+returns c = word_put _ _ (omega arith)

@@ -1,15 +1,10 @@
-use Rattle.std.proofs.Common.{ℕ, List, ◌++◌, refl, ap, ◌∙◌, subst}
+use Rattle.std.proofs.Common.{ℕ, List, ◌++◌, ap, ◌∙◌, subst}
 use Rattle.frames.specs.Format.{Ended, encode}
 use Rattle.protocol.specs.Office.{Desk}
 use Rattle.parties_files.specs.Commits.{Commits}
 use Rattle.parties_files.proofs.office.Office.record_ended.Goals as goal
 
-pub returns : goal.returns
-returns g c =
+pub returns-clause-disk : goal.returns-clause-disk
+returns-clause-disk g c =
     let written = c.deref.ensures.value ∙ c.in_ok-put_ended.ensures.items ∙ ap (λ (old : List ℕ). old ++ encode (Ended c.args.number.0 c.desk.result.now.edition.0)) c.clear.ensures.items ∙ ap (λ (d : Desk). encode (Ended c.args.number.0 d.now.edition)) c.desk.ensures in
-    record {
-      desks = refl;
-      up = refl;
-      disk = subst (λ (bs : List ℕ). Commits g.S.Storage.holds c.args.store.now c.commit.new.store bs c.commit.result) written c.commit.ensures.disk;
-      sent = c.commit.ensures.sent;
-    }
+    subst (λ (bs : List ℕ). Commits g.S.Storage.holds c.args.store.now c.commit.new.store bs c.commit.result) written c.commit.ensures.disk

@@ -4,21 +4,15 @@ use Rattle.protocol_files.specs.Records.{office_replays_all}
 use Rattle.parties_files.proofs.OfficeReplays.{replayed_all}
 use Rattle.parties_files.proofs.office.Office.replay_file.Goals as goal
 
-pub returns : goal.returns
-returns g c =
-    let done = c.in_ok-opening.ensures in
-    let o = done.started in
+pub returns-clause-started : goal.returns-clause-started
+returns-clause-started g c =
+    let o = c.in_ok-opening.ensures.started in
     let (desks, quorum) = replayed_all o.replayed in
     record {
-      started =
-          record {
-            up = refl;
-            quorum = quorum ∙ c.new-fresh.ensures.quorum;
-            frames = o.frames;
-            desks = desks ∙ ap (λ (x : rules.Office). office_replays_all x o.frames) c.new-fresh.ensures.desks;
-            found = o.found;
-            left = o.left;
-          };
-      state = done.state;
-      sent = done.sent;
+      up = refl;
+      quorum = quorum ∙ c.new-fresh.ensures.quorum;
+      frames = o.frames;
+      desks = desks ∙ ap (λ (x : rules.Office). office_replays_all x o.frames) c.new-fresh.ensures.desks;
+      found = o.found;
+      left = o.left;
     }

@@ -5,21 +5,15 @@ use Rattle.protocol_files.specs.Records.{warden_replays_all}
 use Rattle.parties_files.proofs.WardenReplays.{replayed_all}
 use Rattle.parties_files.proofs.warden.Warden.replay_file.Goals as goal
 
-pub returns : goal.returns
-returns g c =
-    let done = c.in_ok-opening.ensures in
-    let o = done.started in
+pub returns-clause-started : goal.returns-clause-started
+returns-clause-started g c =
+    let o = c.in_ok-opening.ensures.started in
     let (notes, outbox) = replayed_all o.replayed in
     record {
-      started =
-          record {
-            up = refl;
-            outbox = outbox ∙ c.new-fresh.ensures.outbox;
-            frames = o.frames;
-            kept = notes ∙ ap (λ (d : Keep Note). warden_replays_all d o.frames) c.new-fresh.ensures.kept;
-            found = o.found;
-            left = o.left;
-          };
-      state = done.state;
-      sent = done.sent;
+      up = refl;
+      outbox = outbox ∙ c.new-fresh.ensures.outbox;
+      frames = o.frames;
+      kept = notes ∙ ap (λ (d : Keep Note). warden_replays_all d o.frames) c.new-fresh.ensures.kept;
+      found = o.found;
+      left = o.left;
     }

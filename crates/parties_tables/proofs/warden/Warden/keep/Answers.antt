@@ -4,4 +4,4 @@ use Rattle.parties_tables.proofs.Tables.{stored}
 use Rattle.parties_tables.proofs.warden.Warden.keep.Goals as goal
 
 pub returns : goal.returns
-returns c = stored note_of none c.args.number.0 c.args.note c.args.self.now.notes c.put.new.self c.put.result c.put.ensures
+returns c = stored note_of none _ _ c.args.self.now.notes c.put.new.self _ c.put.ensures
