@@ -1,11 +1,11 @@
 // Frames to bytes. Each is added whole; where there is no memory, nothing is.
-ghost use Rattle.std.specs.Prelude.{◌≡◌, ◌+◌, ◌^◌, ◌<◌, ◌≤◌, [], ◌∷◌, ◌++◌, length, is_ok, if◌then◌else◌, vec_len, vec_capacity};
+ghost use Rattle.std.specs.Prelude.{◌≡◌, ◌+◌, ◌^◌, ◌<◌, ◌≤◌, [], ◌∷◌, ◌++◌, length, vec_len, vec_capacity};
 ghost use Rattle.protocol.specs.Message.{Take, Took, Ask, Told};
 ghost use Rattle.notes.specs.Views.{bytes_of, note_of};
 ghost use Rattle.frames.specs.Format.{Sent, Begun, Ended, be, valued, encode, Fits};
 ghost use Rattle.frames.specs.Views.{number_of};
 ghost use Rattle.frames.specs.Fronts.{framed};
-ghost use Rattle.frames.specs.Room.{Added};
+ghost use Rattle.frames.specs.Room.{Added, WholeOrNot};
 
 use crate::kind::Kind;
 use notes::ids::{Edition, NoteId, RoundNumber};
@@ -48,7 +48,7 @@ fn put_value(out: &mut Vec<u8>, value: &[u8])
 
 // Adds a frame of a kind and two numbers.
 fn put_bare(out: &mut Vec<u8>, kind: Kind, note: NoteId, number: u64) -> Result<(), AllocError>
-    ensures { out.new.items ≡ (if is_ok result then out.old.items ++ framed (number_of kind) note.0 number [] else out.old.items) }
+    ensures { WholeOrNot out.old out.new (framed (number_of kind) note.0 number []) result }
 {
     out.reserve(HEAD)?;
     put_head(out, kind, note, number);
@@ -64,7 +64,7 @@ fn put_valued(
     edition: Edition,
     value: &Value,
 ) -> Result<(), AllocError>
-    ensures items { out.new.items ≡ (if is_ok result then out.old.items ++ framed (number_of kind) note.0 edition.0 (valued (bytes_of value.now)) else out.old.items) }
+    ensures items { WholeOrNot out.old out.new (framed (number_of kind) note.0 edition.0 (valued (bytes_of value.now))) result }
     ensures fits { (edition.0 < 2 ^ 64) × (length (bytes_of value.now) ≤ 64) }
 {
     let bytes = value.bytes();
@@ -77,7 +77,7 @@ fn put_valued(
 /// Adds a take: this note is to be taken.
 #[tactic(auto, unfolding(crate::specs::Format::encode))]
 pub fn put_take(out: &mut Vec<u8>, note: NoteId, what: &Note) -> Result<(), AllocError>
-    ensures items { out.new.items ≡ (if is_ok result then out.old.items ++ encode (Sent note.0 (Take (note_of what.now))) else out.old.items) }
+    ensures items { WholeOrNot out.old out.new (encode (Sent note.0 (Take (note_of what.now)))) result }
     ensures fits { Fits (Sent note.0 (Take (note_of what.now))) }
 {
     put_valued(out, Kind::Take, note, what.edition, &what.value)
@@ -86,7 +86,7 @@ pub fn put_take(out: &mut Vec<u8>, note: NoteId, what: &Note) -> Result<(), Allo
 /// Adds a took: that edition is taken.
 #[tactic(auto, unfolding(crate::specs::Format::encode))]
 pub fn put_took(out: &mut Vec<u8>, note: NoteId, edition: Edition) -> Result<(), AllocError>
-    ensures items { out.new.items ≡ (if is_ok result then out.old.items ++ encode (Sent note.0 (Took edition.0)) else out.old.items) }
+    ensures items { WholeOrNot out.old out.new (encode (Sent note.0 (Took edition.0))) result }
     ensures fits { Fits (Sent note.0 (Took edition.0)) }
 {
     put_bare(out, Kind::Took, note, edition.0)
@@ -95,7 +95,7 @@ pub fn put_took(out: &mut Vec<u8>, note: NoteId, edition: Edition) -> Result<(),
 /// Adds an ask: what is had, in that round.
 #[tactic(auto, unfolding(crate::specs::Format::encode))]
 pub fn put_ask(out: &mut Vec<u8>, note: NoteId, round: RoundNumber) -> Result<(), AllocError>
-    ensures items { out.new.items ≡ (if is_ok result then out.old.items ++ encode (Sent note.0 (Ask round.0)) else out.old.items) }
+    ensures items { WholeOrNot out.old out.new (encode (Sent note.0 (Ask round.0))) result }
     ensures fits { Fits (Sent note.0 (Ask round.0)) }
 {
     put_bare(out, Kind::Ask, note, round.0)
@@ -109,7 +109,7 @@ pub fn put_told(
     round: RoundNumber,
     what: &Note,
 ) -> Result<(), AllocError>
-    ensures items { out.new.items ≡ (if is_ok result then out.old.items ++ encode (Sent note.0 (Told round.0 (note_of what.now))) else out.old.items) }
+    ensures items { WholeOrNot out.old out.new (encode (Sent note.0 (Told round.0 (note_of what.now)))) result }
     ensures fits { Fits (Sent note.0 (Told round.0 (note_of what.now))) }
 {
     let edition = what.edition.0;
@@ -124,7 +124,7 @@ pub fn put_told(
 /// Adds a begun: the office has begun that edition.
 #[tactic(auto, unfolding(crate::specs::Format::encode))]
 pub fn put_begun(out: &mut Vec<u8>, note: NoteId, what: &Note) -> Result<(), AllocError>
-    ensures items { out.new.items ≡ (if is_ok result then out.old.items ++ encode (Begun note.0 (note_of what.now)) else out.old.items) }
+    ensures items { WholeOrNot out.old out.new (encode (Begun note.0 (note_of what.now))) result }
     ensures fits { Fits (Begun note.0 (note_of what.now)) }
 {
     put_valued(out, Kind::Begun, note, what.edition, &what.value)
@@ -133,7 +133,7 @@ pub fn put_begun(out: &mut Vec<u8>, note: NoteId, what: &Note) -> Result<(), All
 /// Adds an ended: the writing of that edition has come to an end.
 #[tactic(auto, unfolding(crate::specs::Format::encode))]
 pub fn put_ended(out: &mut Vec<u8>, note: NoteId, edition: Edition) -> Result<(), AllocError>
-    ensures items { out.new.items ≡ (if is_ok result then out.old.items ++ encode (Ended note.0 edition.0) else out.old.items) }
+    ensures items { WholeOrNot out.old out.new (encode (Ended note.0 edition.0)) result }
     ensures fits { Fits (Ended note.0 edition.0) }
 {
     put_bare(out, Kind::Ended, note, edition.0)

@@ -19,7 +19,7 @@ fn numbers_come_in_any_order(rt: HostRuntime) {
         has(&rt, &table, number, None);
         put(&rt, &mut table, number, number as u64 + 1);
     }
-    assert!(rt; table.count() == 6);
+    assert!(rt; table.count() == 6 && table.iter().count() == 6);
     for ((number, _), expected) in table.iter().zip([0, 5, 7, 8, 9, u32::MAX]) {
         assert!(rt; *number == NoteId(expected));
     }

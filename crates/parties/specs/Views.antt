@@ -1,6 +1,6 @@
 -- What the code's values say, as the rules have it; the number of each refusal.
 -- Assumes nothing.
-use Rattle.std.specs.Prelude.{◌≡◌, ℕ, Ok, Err, Result}
+use Rattle.std.specs.Prelude.{◌≡◌, ℕ, ◌*◌, ◌<◌, Ok, Err, Result}
 use Rattle.notes.specs.Views.{note_of}
 use Rattle.protocol.specs.Message as rules
 use Rattle.protocol.specs.Step as steps
@@ -94,3 +94,7 @@ pub record Did {S D : Type 0} (next : S) (sends : rules.Sends) (outcome : steps.
   pub next_is : next ≡ step.next
   pub sends_is : sends ≡ step.sends
   pub outcome_is : outcome ≡ step.outcome
+
+-- of so many wardens and faults as there can be
+abbrev pub ForQuorums : (ℕ → ℕ → Type 0) → Type 0
+ForQuorums P = (n f : ℕ) → 4 * f < n → P n f

@@ -1,9 +1,9 @@
 // The office's place for one note.
-ghost use Rattle.std.specs.Prelude.{◌≡◌, ℕ, ◌*◌, ◌<◌};
+ghost use Rattle.std.specs.Prelude.{◌≡◌};
 ghost use Rattle.notes.specs.Views.{bytes_of};
 ghost use Rattle.protocol.specs.Office.{empty_desk, write_on, office_tick, office_on, took_on};
 ghost use Rattle.protocol.specs.Runs.{OfficeHears, OfficeActs};
-ghost use Rattle.parties.specs.Views.{message_of, sends_of, office_outcome, made, Did};
+ghost use Rattle.parties.specs.Views.{message_of, sends_of, office_outcome, made, Did, ForQuorums};
 ghost use Rattle.parties.specs.Desks.{desk_of};
 
 use crate::message::{Message, Sends};
@@ -40,7 +40,7 @@ impl Desk {
     /// The next edition is to have this value.
     pub fn write(&mut self, value: Value) -> OfficeStep
         ensures did { Did (desk_of self.exit.now) (sends_of result.sends) (office_outcome result.outcome) (write_on (desk_of self.entry.now) (bytes_of value)) }
-        ensures runs { (n f : ℕ) → 4 * f < n → OfficeActs n f (desk_of self.entry.now) (made (desk_of self.exit.now) (sends_of result.sends) (office_outcome result.outcome)) }
+        ensures runs { ForQuorums (λ n f. OfficeActs n f (desk_of self.entry.now) (made (desk_of self.exit.now) (sends_of result.sends) (office_outcome result.outcome))) }
     {
         self.begin(value)
     }
@@ -67,7 +67,7 @@ impl Desk {
     /// It is time to send again.
     pub fn tick(&self) -> OfficeStep
         ensures did { Did (desk_of self.entry.now) (sends_of result.sends) (office_outcome result.outcome) (office_tick (desk_of self.entry.now)) }
-        ensures runs { (n f : ℕ) → 4 * f < n → OfficeActs n f (desk_of self.entry.now) (made (desk_of self.entry.now) (sends_of result.sends) (office_outcome result.outcome)) }
+        ensures runs { ForQuorums (λ n f. OfficeActs n f (desk_of self.entry.now) (made (desk_of self.entry.now) (sends_of result.sends) (office_outcome result.outcome))) }
     {
         self.resend()
     }

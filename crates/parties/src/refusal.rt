@@ -3,17 +3,17 @@
 #[derive(Clone, Copy, PartialEq, Eq, Debug)]
 pub enum Refusal {
     /// Not a message that this party takes from that sender.
-    Malformed,
+    Malformed = 1,
     /// A take whose edition is not above the one had.
-    NotAbove,
+    NotAbove = 2,
     /// A told of another round or note, or from one who told before in this round.
-    NotAwaited,
+    NotAwaited = 3,
     /// A took of an edition that is not being written, or from one who said so before.
-    NotCounted,
+    NotCounted = 4,
     /// A write while a writing of that note is under way, or when its editions are used up; a round when a reader's numbers are used up.
-    NotNow,
+    NotNow = 5,
     /// A note that is not had, with as many others had as there may be.
-    NoRoom,
+    NoRoom = 6,
 }
 
 // The number by which it is told.
@@ -24,13 +24,6 @@ impl From<Refusal> for u8 {
     ghost from_gives = { λ refusal number. number ≡ number_of refusal };
 
     fn from(refusal: Refusal) -> u8 {
-        match refusal {
-            Refusal::Malformed => 1,
-            Refusal::NotAbove => 2,
-            Refusal::NotAwaited => 3,
-            Refusal::NotCounted => 4,
-            Refusal::NotNow => 5,
-            Refusal::NoRoom => 6,
-        }
+        refusal as u8
     }
 }

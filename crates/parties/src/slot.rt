@@ -1,11 +1,11 @@
 // A warden's place for one note.
-ghost use Rattle.std.specs.Prelude.{◌≡◌, ℕ, ◌*◌, ◌<◌};
+ghost use Rattle.std.specs.Prelude.{◌≡◌};
 ghost use Rattle.register.specs.Note.{none};
 ghost use Rattle.notes.specs.Views.{note_of};
 ghost use Rattle.protocol.specs.Message.{One, Took};
 ghost use Rattle.protocol.specs.Warden.{warden_on, ask_on};
 ghost use Rattle.protocol.specs.Runs.{WardenHears};
-ghost use Rattle.parties.specs.Views.{message_of, sends_of, warden_outcome, made, Did};
+ghost use Rattle.parties.specs.Views.{message_of, sends_of, warden_outcome, made, Did, ForQuorums};
 ghost use Rattle.parties.specs.Standings.{standing_of};
 
 use crate::message::{Message, Sends};
@@ -54,7 +54,7 @@ impl Slot {
     /// What it does with a message from a party.
     pub fn on(&mut self, from: PartyId, message: Message) -> WardenStep
         ensures did { Did (note_of self.new.held) (sends_of result.sends) (warden_outcome result.outcome) (warden_on (note_of self.old.held) from.0 (message_of message)) }
-        ensures runs { (n f : ℕ) → 4 * f < n → WardenHears n f (note_of self.old.held) from.0 (message_of message) (made (note_of self.new.held) (sends_of result.sends) (warden_outcome result.outcome)) }
+        ensures runs { ForQuorums (λ n f. WardenHears n f (note_of self.old.held) from.0 (message_of message) (made (note_of self.new.held) (sends_of result.sends) (warden_outcome result.outcome))) }
     {
         self.receive(from, message)
     }

@@ -2,7 +2,7 @@
 ghost use Rattle.std.specs.Prelude.{◌≡◌, ℕ, ◌*◌, ◌<◌, IfOk, MatchResult};
 ghost use Rattle.register.specs.Note.{none};
 ghost use Rattle.notes.specs.Views.{note_of};
-ghost use Rattle.parties.specs.Views.{message_of, sends_of, warden_outcome, made, Did};
+ghost use Rattle.parties.specs.Views.{message_of, sends_of, warden_outcome, made, Did, ForQuorums};
 ghost use Rattle.protocol_tables.specs.Keep.{empty};
 ghost use Rattle.protocol_tables.specs.Warden.{warden_keeps};
 ghost use Rattle.protocol_tables.specs.Runs.{WardenHears};
@@ -45,7 +45,7 @@ impl Warden {
     /// What it does with a message about a note.
     pub fn on(&mut self, incoming: Incoming) -> Result<WardenStep, AllocError>
         ensures did { MatchResult result (λ step. Did (notes_of self.new) (sends_of step.sends) (warden_outcome step.outcome) (warden_keeps (notes_of self.old) incoming.from.0 incoming.note.0 (message_of incoming.message))) (λ _. notes_of self.new ≡ notes_of self.old) }
-        ensures runs { IfOk result (λ step. (n f : ℕ) → 4 * f < n → WardenHears n f (notes_of self.old) incoming.from.0 incoming.note.0 (message_of incoming.message) (made (notes_of self.new) (sends_of step.sends) (warden_outcome step.outcome))) }
+        ensures runs { IfOk result (λ step. ForQuorums (λ n f. WardenHears n f (notes_of self.old) incoming.from.0 incoming.note.0 (message_of incoming.message) (made (notes_of self.new) (sends_of step.sends) (warden_outcome step.outcome)))) }
     {
         self.receive(incoming)
     }

@@ -405,9 +405,7 @@ fn refusals_have_their_numbers(rt: HostRuntime) {
         Refusal::NotNow,
         Refusal::NoRoom,
     ];
-    let mut expected = 1;
-    for refusal in all {
+    for (refusal, expected) in all.into_iter().zip([1, 2, 3, 4, 5, 6]) {
         assert!(rt; u8::from(refusal) == expected);
-        expected = expected.saturating_add(1);
     }
 }

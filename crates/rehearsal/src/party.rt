@@ -34,9 +34,11 @@ impl TryFrom<PartyId> for Party {
     ghost try_from_gives = { λ id r. MatchResult r (λ p. party_number p ≡ id.0) (λ e. (e ≡ NoSuchParty) × (TakesPart id.0 → ⊥)) };
 
     fn try_from(id: PartyId) -> Result<Party, ScriptError> {
+        if id == OFFICE {
+            return Ok(Party::Office);
+        }
         match id.0 {
             0..=62 => Ok(Party::Warden(WardenId { index: id.0 as u8 })),
-            63 => Ok(Party::Office),
             65..=68 => Ok(Party::Reader(ReaderId {
                 index: (id.0 - FIRST_READER) as u8,
             })),

@@ -48,6 +48,6 @@ impl Readers {
     pub fn has_read(&self, reader: ReaderId) -> bool
         ensures { result ≡ nat_lt 1 (readers_of self.now reader.index).next }
     {
-        self.get(reader).next.0 > FIRST_ROUND.0
+        self.get(reader).next > FIRST_ROUND
     }
 }

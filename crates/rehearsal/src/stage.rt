@@ -84,7 +84,7 @@ impl Stage {
         ensures scene { OnOk result (scene_of self.new ≡ by_office (wardens_of self.old) (office_ticks (scene_of self.old).office) (scene_of self.old)) }
     {
         let letters = self.cast.office.tick(self.heap)?;
-        self.post(letters.as_slice())
+        self.post(&letters)
     }
 
     // The office sends its letters, one after the other.

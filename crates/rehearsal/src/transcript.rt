@@ -96,7 +96,7 @@ impl Transcript {
     ) -> Result<(), AllocError> {
         let id = PartyId::from(reader);
         match outcome {
-            Ok(ReaderDone::Asked) | Ok(ReaderDone::Retried) => {
+            Ok(ReaderDone::Asked | ReaderDone::Retried) => {
                 let reader = cast.readers.get(reader);
                 let note = reader.note;
                 let round = reader.round.number;

@@ -54,7 +54,7 @@ impl Which {
         match self {
             Which::Number(number) => packet.number == *number,
             Which::Between(from, to) => {
-                packet.from.0 == PartyId::from(*from).0 && packet.to.0 == PartyId::from(*to).0
+                packet.from == PartyId::from(*from) && packet.to == PartyId::from(*to)
             }
         }
     }

@@ -82,7 +82,7 @@ fn rehearse(rt: &HostRuntime) -> io::Result<()> {
         match next_line(&mut input, &mut line)? {
             Got::End => break,
             Got::LongLine => rehearsal.long_line()?,
-            Got::Line => rehearsal.line(line.as_slice())?,
+            Got::Line => rehearsal.line(&line)?,
         }
         out.write_all(rehearsal.transcript.text.as_bytes())?;
         rehearsal.transcript.text.clear();
