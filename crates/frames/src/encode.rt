@@ -1,5 +1,5 @@
 // Frames to bytes. Each is added whole; where there is no memory, nothing is.
-ghost use Rattle.std.specs.Prelude.{◌≡◌, ◌+◌, ◌^◌, ◌<◌, ◌≤◌, [], ◌∷◌, ◌++◌, length, vec_len, vec_capacity};
+ghost use Rattle.std.specs.Prelude.{◌+◌, ◌^◌, ◌<◌, ◌≤◌, [], ◌∷◌, ◌++◌, length, vec_len, vec_capacity};
 ghost use Rattle.protocol.specs.Message.{Take, Took, Ask, Told};
 ghost use Rattle.notes.specs.Views.{bytes_of, note_of};
 ghost use Rattle.frames.specs.Format.{Sent, Begun, Ended, be, valued, encode, Fits};

@@ -1,5 +1,5 @@
 // What a reader has heard in one round, by value: it is added to and handed back; and the rule by which a note is read.
-ghost use Rattle.std.specs.Prelude.{◌≡◌, ℕ, ◌≤◌, ◌&&◌, if◌then◌else◌, MatchOption, nat_lt};
+ghost use Rattle.std.specs.Prelude.{◌≡◌, ◌≤◌, ◌&&◌, if◌then◌else◌, MatchOption, nat_lt};
 ghost use Rattle.register.specs.Note.{same, Note as AnyNote};
 ghost use Rattle.register.specs.Rule.{silence, reply, votes, later, readable, IsRead, pick};
 ghost use Rattle.notes.specs.Views.{note_of, replies_of, reading_of, told_at};

@@ -1,5 +1,5 @@
 // Sets of wardens.
-ghost use Rattle.std.specs.Prelude.{◌≡◌, ℕ, true, false};
+ghost use Rattle.std.specs.Prelude.{◌≡◌, true, false};
 ghost use Rattle.register.specs.Count.{put};
 ghost use Rattle.notes.specs.Views.{members};
 

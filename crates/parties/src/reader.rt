@@ -1,5 +1,5 @@
 // A reader: it reads one note at a time, in rounds.
-ghost use Rattle.std.specs.Prelude.{◌≡◌, ℕ, ◌-◌};
+ghost use Rattle.std.specs.Prelude.{◌≡◌};
 ghost use Rattle.notes.specs.Views.{note_of};
 ghost use Rattle.protocol.specs.Reader.{new_reader, read_on, reader_tick, reader_on, told_on, begin_round, decided, settle_round};
 ghost use Rattle.protocol.specs.Runs.{ReaderHears, ReaderActs};

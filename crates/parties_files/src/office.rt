@@ -1,13 +1,11 @@
 // The office with its file: what it begins is on the file, synced, before it sends it, and that it has ended before it says so.
-ghost use Rattle.std.specs.Prelude.{◌≡◌, ℕ, false, ◌⊎◌, [], ◌++◌, take, MatchResult, OnOk};
+ghost use Rattle.std.specs.Prelude.{◌≡◌, ℕ, false, ◌⊎◌, ◌++◌, take, MatchResult, OnOk};
 ghost use Rattle.notes.specs.Views.{bytes_of};
 ghost use Rattle.parties.specs.Views.{message_of, office_outcome};
-ghost use Rattle.protocol_tables.specs.Office.{empty_office, post, office_writes, office_hears, office_ticks};
-ghost use Rattle.protocol_files.specs.Disk.{Disk, append, sync};
+ghost use Rattle.protocol_tables.specs.Office.{empty_office, post, office_writes, office_hears};
 ghost use Rattle.frames.specs.Format.{Begun, Ended, encode};
 ghost use Rattle.frames.specs.declared.role.Role.TheVariants.{Office as Writing};
 ghost use Rattle.storage.specs.Conditions.{settled};
-ghost use Rattle.storage.specs.Changes.{Becomes};
 ghost use Rattle.journal.specs.Openings.{Unstarted};
 ghost use Rattle.parties_files.specs.Commits.{Commits};
 ghost use Rattle.parties_files.specs.Promises.{OfficeRuns, OfficeHears};

@@ -1,5 +1,5 @@
 // The office: it writes many notes, several at once.
-ghost use Rattle.std.specs.Prelude.{◌≡◌, ℕ, map, IfOk, MatchResult};
+ghost use Rattle.std.specs.Prelude.{◌≡◌, map, IfOk, MatchResult};
 ghost use Rattle.notes.specs.Views.{bytes_of};
 ghost use Rattle.parties.specs.Desks.{desk_of};
 ghost use Rattle.parties.specs.Views.{message_of, sends_of, office_outcome};

@@ -1,5 +1,4 @@
 // What comes of a step whose outcome may find no place.
-ghost use Rattle.std.specs.Prelude.{◌≡◌};
 ghost use Rattle.parties_tables.specs.Keeps.{Placed};
 
 use notes_table::unplaced::Unplaced;

@@ -1,5 +1,5 @@
 // A warden: it has many notes.
-ghost use Rattle.std.specs.Prelude.{◌≡◌, ℕ, ◌*◌, ◌<◌, IfOk, MatchResult};
+ghost use Rattle.std.specs.Prelude.{◌≡◌, IfOk, MatchResult};
 ghost use Rattle.register.specs.Note.{none};
 ghost use Rattle.notes.specs.Views.{note_of};
 ghost use Rattle.parties.specs.Views.{message_of, sends_of, warden_outcome, made, Did, ForQuorums};

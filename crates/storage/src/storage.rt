@@ -1,6 +1,6 @@
 // A file and a line, seen through a trait. No contract can say what a real file holds, so the trait says what becomes of the
 // disk in terms of what it was: an end in memory is proved to meet that, and the end over a real file is trusted to.
-ghost use Rattle.std.specs.Prelude.{◌≡◌, ℕ, true, false, List, [], ◌∷◌, ◌++◌, length, take, drop, is_ok, IfOk, if◌then◌else◌, MatchResult, OnOk};
+ghost use Rattle.std.specs.Prelude.{◌≡◌, true, false, List, [], ◌∷◌, ◌++◌, length, take, drop, is_ok, IfOk, if◌then◌else◌, MatchResult, OnOk};
 ghost use Rattle.parties.specs.Views.{message_of};
 ghost use Rattle.protocol_files.specs.Disk.{Disk, blank, contents, append, sync, cut_back, with_beside, write_beside, sync_beside, rename, sync_folder};
 ghost use Rattle.storage.specs.Changes.{Parcel, Becomes, BecomesSome, Stays, Shortened, Scribbled, Perhaps};
