@@ -1,4 +1,5 @@
-// Frames to bytes. Each is added whole; where there is no memory, nothing is.
+// Frames to bytes. Each is added whole; where there is no memory, nothing is. Each kind has a function of its own, since one over all of
+// them would take a value of any length, and could fail for that.
 ghost use Rattle.std.specs.Prelude.{◌+◌, ◌^◌, ◌<◌, ◌≤◌, [], ◌∷◌, ◌++◌, length, vec_len, vec_capacity};
 ghost use Rattle.protocol.specs.Message.{Take, Took, Ask, Told};
 ghost use Rattle.notes.specs.Views.{bytes_of, note_of};

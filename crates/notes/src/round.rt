@@ -10,7 +10,7 @@ use crate::quorum::Quorum;
 use crate::warden_id::WardenId;
 use crate::warden_set::WardenSet;
 
-/// Who has told, and at each one's place what it told first.
+/// Who has told, and at each one's place what it told first: all of it in place, so that a round can be handed on by value.
 #[derive(Clone, Copy)]
 pub struct Round {
     pub number: RoundNumber,
@@ -117,7 +117,7 @@ impl Round {
         Some(self.told_by(warden))
     }
 
-    // The first warden whose note is read.
+    // The first warden whose note is read: with it the loop is left.
     fn first_read(&self, quorum: &Quorum) -> Option<WardenId>
         ensures { pick quorum.now.wardens quorum.now.faults (replies_of self.now) quorum.now.wardens ≡ told_at (replies_of self.now) result }
     {

@@ -20,7 +20,8 @@ pub struct Slot {
     pub held: Note,
 }
 
-/// How a message stands to the note that is held: whether the edition that it speaks of is above.
+/// How a message stands to the note that is held: whether the edition that it speaks of is above. It has a name since what is done goes by
+/// it first, and then by the message.
 #[derive(Clone, Copy, PartialEq, Eq, Debug)]
 pub enum Standing {
     Above,

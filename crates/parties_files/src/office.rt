@@ -183,7 +183,7 @@ impl Office {
         Ok(step.outcome)
     }
 
-    // That the present edition of a note has ended is on the file, synced.
+    // That the present edition of a note has ended is on the file, synced. This and the next differ in the record that their contracts name.
     fn record_ended<S: Storage>(&mut self, store: &mut S, number: NoteId) -> Result<(), Fault>
         ensures desks { self.new.desks ≡ self.old.desks }
         ensures up { self.new.up ≡ self.old.up }

@@ -1,4 +1,4 @@
-// What waits for a sync.
+// What waits for a sync. The storage stands beside its party: it stays when the party falls and a new one comes up on it.
 ghost use Rattle.std.specs.Prelude.{◌≡◌, ℕ, true, ◌++◌, map, take, MatchResult, OnOk};
 ghost use Rattle.protocol_files.specs.Disk.{sync};
 ghost use Rattle.storage.specs.Conditions.{settled};

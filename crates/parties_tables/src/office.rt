@@ -86,7 +86,7 @@ impl Office {
         Ok(())
     }
 
-    // Has the desk from now on, if there is room.
+    // Has the desk from now on, if there is room. What the rules see of it differs from what they see of a warden's note.
     fn keep(&mut self, number: NoteId, desk: Desk) -> Result<(), Unplaced>
         ensures quorum { self.new.quorum ≡ self.old.quorum }
         ensures order { self.new.under_way ≡ self.old.under_way }
