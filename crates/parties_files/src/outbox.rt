@@ -53,10 +53,7 @@ pub fn commit<S: Storage>(store: &mut S, bytes: &[u8]) -> Result<(), Fault>
         return Err(Fault::System);
     }
     store.append(bytes)?;
-    let Ok(()) = settle(store) else {
-        return Err(Fault::System);
-    };
-    Ok(())
+    settle(store).map_err(|_| Fault::System)
 }
 
 /// Sends a message about a note to each warden, in their order, or to as many as it goes out to.

@@ -61,9 +61,7 @@ fn a_warden_tells_nothing_of_what_it_does_not_have(rt: HostRuntime) -> Result<()
         note: NoteId(5),
         message: Message::Ask(RoundNumber(3)),
     };
-    let Ok(step) = warden.on(incoming) else {
-        return Err(Fail::new("no memory"));
-    };
+    let step = warden.on(incoming).map_err(|_| Fail::new("no memory"))?;
     assert!(rt; step.outcome == Ok(WardenDone::Answered));
     // It has no more notes for it, and a take of edition 0 brings none.
     assert!(rt; refused(take(&mut warden, 5, note(0, 1)?)?.outcome) == Some(2));
