@@ -5,6 +5,7 @@ ghost use Rattle.journal.specs.Replays.{ScannedAll, Loads};
 
 use crate::replay::Replay;
 use frames::record::first_record;
+use frames::role::Role;
 use storage::fault::Fault;
 use storage::storage::Storage;
 
@@ -15,9 +16,10 @@ pub const WINDOW: usize = 65536;
 pub fn load<P: Replay, S: Storage>(
     party: &mut P,
     store: &mut S,
+    role: Role,
     window: &mut Vec<u8>,
 ) -> Result<u64, Fault>
-    ensures loads { IfOk result (λ n. Loads P.Replay.replays P.Replay.ROLE (S.Storage.holds store.old) n party.old party.new window.new.items) }
+    ensures loads { IfOk result (λ n. Loads P.Replay.replays role (S.Storage.holds store.old) n party.old party.new window.new.items) }
     ensures disk { Stays S.Storage.holds store.old store.new }
     ensures state { S.Storage.state store.new ≡ S.Storage.state store.old }
     ensures sent { S.Storage.sent store.new ≡ S.Storage.sent store.old }
@@ -25,7 +27,7 @@ pub fn load<P: Replay, S: Storage>(
     let mut place: u64 = 0;
     loop {
         store.read(place, WINDOW, window)?;
-        let size = replay_front(party, window)?;
+        let size = replay_front(party, role, window)?;
         if size == 0 {
             return Ok(place);
         }
@@ -34,11 +36,11 @@ pub fn load<P: Replay, S: Storage>(
 }
 
 // Replays the whole records at the front, and says how many bytes they take.
-fn replay_front<P: Replay>(party: &mut P, bytes: &[u8]) -> Result<usize, Fault>
-    ensures { IfOk result (λ n. ScannedAll P.Replay.replays P.Replay.ROLE bytes.now n party.old party.new) }
+fn replay_front<P: Replay>(party: &mut P, role: Role, bytes: &[u8]) -> Result<usize, Fault>
+    ensures { IfOk result (λ n. ScannedAll P.Replay.replays role bytes.now n party.old party.new) }
 {
     let mut rest = bytes;
-    while let Some(front) = first_record(P::ROLE, rest) {
+    while let Some(front) = first_record(role, rest) {
         party.replay(front.frame)?;
         rest = front.rest;
     }

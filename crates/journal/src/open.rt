@@ -18,9 +18,10 @@ use storage::storage::Storage;
 pub fn open<P: Replay, S: Storage>(
     party: &mut P,
     store: &mut S,
+    role: Role,
     window: &mut Vec<u8>,
 ) -> Result<Opening, Fault>
-    ensures opened { MatchResult result (λ o. Opened P.Replay.replays P.Replay.ROLE (S.Storage.holds store.old) (S.Storage.holds store.new) party.old party.new o) (λ _. Unopened P.Replay.ROLE (S.Storage.holds store.old) (S.Storage.holds store.new)) }
+    ensures opened { MatchResult result (λ o. Opened P.Replay.replays role (S.Storage.holds store.old) (S.Storage.holds store.new) party.old party.new o) (λ _. Unopened role (S.Storage.holds store.old) (S.Storage.holds store.new)) }
     ensures state { OnOk result (S.Storage.state store.new ≡ settled) }
     ensures sent { S.Storage.sent store.new ≡ S.Storage.sent store.old }
 {
@@ -28,8 +29,8 @@ pub fn open<P: Replay, S: Storage>(
         return Err(Fault::System);
     }
     store.clear_beside()?;
-    let whole = load(party, store, window)?;
-    let opening = cut_off(store, P::ROLE, whole, window)?;
+    let whole = load(party, store, role, window)?;
+    let opening = cut_off(store, role, whole, window)?;
     store.sync_folder()?;
     store.sync()?;
     Ok(opening)

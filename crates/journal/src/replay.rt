@@ -2,18 +2,11 @@
 ghost use Rattle.std.specs.Prelude.{OnOk};
 ghost use Rattle.frames.specs.Format.{Frame as Record, Fits};
 ghost use Rattle.frames.specs.Views.{frame_of};
-ghost use Rattle.frames.specs.declared.role.Role.{Role as Whose};
 
 use frames::frame::Frame;
-use frames::role::Role;
 use storage::fault::Fault;
 
 pub trait Replay {
-    /// Whose file it is.
-    const ROLE: Role;
-
-    ghost ROLE: { Whose };
-
     // What it has become by a record.
     ghost replays: { Self → Record → Self → Type 0 };
 

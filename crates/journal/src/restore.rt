@@ -8,6 +8,7 @@ use crate::load::WINDOW;
 use crate::open::open;
 use crate::opening::Opening;
 use crate::replay::Replay;
+use frames::role::Role;
 use storage::fault::Fault;
 use storage::storage::Storage;
 
@@ -15,15 +16,16 @@ use storage::storage::Storage;
 pub fn restore<P: Replay, S: Storage>(
     party: &mut P,
     store: &mut S,
+    role: Role,
     window: &mut Vec<u8>,
 ) -> Result<Opening, Fault>
-    ensures restored { MatchResult result (λ _. Restored P.Replay.replays P.Replay.ROLE (S.Storage.holds store.old) (S.Storage.holds store.new) party.old party.new) (λ _. Unrestored P.Replay.ROLE (S.Storage.holds store.old) (S.Storage.holds store.new)) }
+    ensures restored { MatchResult result (λ _. Restored P.Replay.replays role (S.Storage.holds store.old) (S.Storage.holds store.new) party.old party.new) (λ _. Unrestored role (S.Storage.holds store.old) (S.Storage.holds store.new)) }
     ensures state { OnOk result (S.Storage.state store.new ≡ settled) }
     ensures sent { S.Storage.sent store.new ≡ S.Storage.sent store.old }
 {
     copy_sure(store, window)?;
     store.rename()?;
-    open(party, store, window)
+    open(party, store, role, window)
 }
 
 // What is sure stands beside, synced.

@@ -72,8 +72,9 @@ impl Office {
         ensures sent { S.Storage.sent store.new ≡ S.Storage.sent store.old }
     {
         let mut fresh = Office::new(self.heap, self.desks.quorum);
+        let mut window = Vec::new(self.heap);
         self.up = false;
-        let opening = start(self.heap, &mut fresh, store)?;
+        let opening = start(&mut fresh, store, Role::Office, &mut window)?;
         fresh.up = true;
         *self = fresh;
         Ok(opening)
@@ -81,10 +82,6 @@ impl Office {
 }
 
 impl Replay for Office {
-    const ROLE: Role = Role::Office;
-
-    ghost ROLE = { Writing };
-
     ghost replays = { Replays };
 
     fn replay(&mut self, frame: Frame<'_>) -> Result<(), Fault> {

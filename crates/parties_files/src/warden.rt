@@ -77,8 +77,9 @@ impl Warden {
         ensures sent { S.Storage.sent store.new ≡ S.Storage.sent store.old }
     {
         let mut fresh = Warden::new(self.heap);
+        let mut window = Vec::new(self.heap);
         self.up = false;
-        let opening = start(self.heap, &mut fresh, store)?;
+        let opening = start(&mut fresh, store, Role::Warden, &mut window)?;
         fresh.up = true;
         *self = fresh;
         Ok(opening)
@@ -188,10 +189,6 @@ impl Warden {
 }
 
 impl Replay for Warden {
-    const ROLE: Role = Role::Warden;
-
-    ghost ROLE = { Keeping };
-
     ghost replays = { Replays };
 
     fn replay(&mut self, frame: Frame<'_>) -> Result<(), Fault> {

@@ -1,6 +1,6 @@
 -- The parties and what is on its way between them, as the rules have it, and how a step changes that.
 -- Assumes nothing.
-use Rattle.std.specs.Prelude.{◌≡◌, ℕ, ◌+◌, ◌<◌, ◌≤◌, true, false, ◌⊎◌, List, [], ◌∷◌, ◌++◌, Ok, Err, vec_items, vec_len, Result, MatchOption, option_and_then}
+use Rattle.std.specs.Prelude.{◌≡◌, ℕ, ◌+◌, ◌<◌, ◌≤◌, true, false, ◌⊎◌, List, [], ◌∷◌, ◌++◌, Ok, Err, vec_items, vec_len, Result, Option, option_map, MatchOption, option_and_then}
 use Rattle.register.specs.Count.{put}
 use Rattle.register.specs.Note.{Note}
 use Rattle.notes.specs.Views.{members}
@@ -16,7 +16,7 @@ use Rattle.protocol_tables.specs.Office.{Letter, OfficeStep, office_hears}
 use Rattle.parties.specs.Views.{message_of, OfficeOutcome, WardenOutcome, ReaderOutcome, office_outcome, warden_outcome, reader_outcome}
 use Rattle.parties_tables.specs.Offices.{office_of}
 use Rattle.rehearsal.specs.Casts.{keeps_of, readers_of, numbers_of}
-use Rattle.rehearsal.specs.Seeds.{answer_by}
+use Rattle.rehearsal.specs.Seeds.{answer_by, after_answer}
 use Rattle.rehearsal.specs.Ways.{packets_of}
 use Rattle.rehearsal.specs.declared.failure.Failure.{Failure}
 use Rattle.rehearsal.specs.declared.failure.Failure.TheVariants.{Script, Memory}
@@ -127,6 +127,13 @@ abbrev pub Answered : (s t : Stage) → Packet → Type 0
 Answered s t p =
     MatchOption (option_and_then (λ d. answer_by d.state (message_of p.message)) s.seed) (scene_of t ≡ scene_of s)
     (λ m. scene_of t ≡ sending p.to.0 (answered_to p m) p.note.0 m (scene_of s))
+
+-- the state of the seed, if there is one; and the state once a liar has answered a message by it
+abbrev pub seed_state : Stage → Option ℕ
+seed_state s = option_map (λ d. d.state) s.seed
+
+abbrev pub seed_after : Stage → rules.Message → Option ℕ
+seed_after s m = option_map (λ d. after_answer d.state m) s.seed
 
 -- what a command that was turned away left as it was
 abbrev pub IfTurnedAway : Result Unit Failure → Type 0 → Type 0

@@ -4,6 +4,7 @@ ghost use Rattle.rehearsal.specs.declared.failure.Failure.TheVariants.{Script, M
 
 use crate::script_error::ScriptError;
 use std::alloc::AllocError;
+use std::fmt;
 
 #[derive(Clone, Copy, Debug, PartialEq, Eq)]
 pub enum Failure {
@@ -26,5 +27,14 @@ impl From<AllocError> for Failure {
 
     fn from(error: AllocError) -> Failure {
         Failure::Memory(error)
+    }
+}
+
+// Text fails only for want of memory.
+impl From<fmt::Error> for Failure {
+    ghost from_gives = { λ _ y. y ≡ Memory (record {}) };
+
+    fn from(_: fmt::Error) -> Failure {
+        Failure::Memory(AllocError)
     }
 }

@@ -14,7 +14,7 @@ ghost use Rattle.rehearsal.specs.Parties.{party_number};
 ghost use Rattle.rehearsal.specs.Casts.{numbers_by, numbers_of};
 ghost use Rattle.rehearsal.specs.Seeds.{answer_by};
 ghost use Rattle.rehearsal.specs.Ways.{packets_of};
-ghost use Rattle.rehearsal.specs.Scenes.{scene_of, wardens_of, posted, by_office, Stays, OfficeMade, WardenMade, ReaderMade, ticked, at_office, at_warden, at_reader, Arrived, sending, Lied, Answered, IfTurnedAway};
+ghost use Rattle.rehearsal.specs.Scenes.{scene_of, wardens_of, posted, by_office, Stays, OfficeMade, WardenMade, ReaderMade, ticked, at_office, at_warden, at_reader, Arrived, sending, Lied, Answered, seed_state, seed_after, IfTurnedAway};
 
 use crate::cast::Cast;
 use crate::command::Saying;
@@ -227,6 +227,7 @@ impl Stage {
         ensures cast { self.new.cast ≡ self.old.cast }
         ensures lied { OnOk result (Lied (scene_of self.old) (scene_of self.new) packet) }
         ensures answered { OnOk result (Answered self.old self.new packet) }
+        ensures seed { seed_state self.new ≡ seed_after self.old (message_of packet.message) }
     {
         let Some(message) = self.made_up(packet.message) else {
             return Ok(());
@@ -242,6 +243,7 @@ impl Stage {
         ensures said { option_map message_of result ≡ option_and_then (λ s. answer_by s.state (message_of message)) self.old.seed }
         ensures cast { self.new.cast ≡ self.old.cast }
         ensures way { self.new.way ≡ self.old.way }
+        ensures seed { seed_state self.new ≡ seed_after self.old (message_of message) }
     {
         self.seed.as_mut()?.answer(message)
     }

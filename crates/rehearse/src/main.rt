@@ -1,7 +1,7 @@
 // Plays a script from the standard input, and prints its transcript.
 #![tactic(auto)]
 
-ghost use Rattle.std.specs.Prelude.{◌≤◌, vec_len};
+ghost use Rattle.std.specs.Prelude.{◌≡◌, ℕ, ◌<◌, ◌≤◌, length, vec_len, ◌≢◌, slice_index, MatchOption};
 
 use rehearsal::rehearsal::Rehearsal;
 use std::io::{BufRead, BufReader, Stdin, Write};
@@ -43,6 +43,13 @@ enum Got {
     End,
 }
 
+// How many bytes stand before the first line break, if there is one.
+fn line_break(held: &[u8]) -> Option<usize>
+    ensures { MatchOption result ((k : ℕ) → k < length held.now → slice_index held.now k ≢ 10) (λ n. (n < length held.now) × (slice_index held.now n ≡ 10) × ((k : ℕ) → k < n → slice_index held.now k ≢ 10)) }
+{
+    held.iter().position(|&byte| byte == b'\n')
+}
+
 // Reads the next line, without its break. Of one that is too long the rest is passed over.
 fn next_line(input: &mut BufReader<Stdin>, line: &mut Vec<u8>) -> io::Result<Got>
     ensures { vec_len line.new ≤ 4096 }
@@ -55,8 +62,8 @@ fn next_line(input: &mut BufReader<Stdin>, line: &mut Vec<u8>) -> io::Result<Got
         if held.is_empty() {
             break;
         }
-        let line_break = held.iter().position(|&byte| byte == b'\n');
-        let length = line_break.unwrap_or(held.len());
+        let found = line_break(held);
+        let length = found.unwrap_or(held.len());
         if got == Got::LongLine || length > LONGEST_LINE - line.len() {
             got = Got::LongLine;
         } else {
@@ -64,7 +71,7 @@ fn next_line(input: &mut BufReader<Stdin>, line: &mut Vec<u8>) -> io::Result<Got
             got = Got::Line;
         }
         input.consume(length);
-        if line_break.is_some() {
+        if found.is_some() {
             input.consume(1);
             break;
         }

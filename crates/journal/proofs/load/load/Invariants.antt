@@ -5,7 +5,7 @@ use Rattle.journal.proofs.load.load.Given as goal
 
 abbrev pub invariant-loop-party : goal.invariant-loop-party
 invariant-loop-party g l =
-    Loading g.P.Replay.replays g.P.Replay.ROLE (g.S.Storage.holds l.initial.store) l.place l.initial.party l.party
+    Loading g.P.Replay.replays l.role (g.S.Storage.holds l.initial.store) l.place l.initial.party l.party
     × Stays g.S.Storage.holds l.initial.store l.store
     × (g.S.Storage.state l.store ≡ g.S.Storage.state l.initial.store)
     × (g.S.Storage.sent l.store ≡ g.S.Storage.sent l.initial.store)

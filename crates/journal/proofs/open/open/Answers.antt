@@ -1,6 +1,4 @@
-use Rattle.std.proofs.Common.{◌≤◌, length, MatchBool, sym, ◌∙◌, subst}
-use Rattle.frames.specs.Journal.{StrictFront}
-use Rattle.frames.specs.declared.role.Role.{Role}
+use Rattle.std.proofs.Common.{◌≤◌, length, sym, ◌∙◌, subst}
 use Rattle.protocol_files.specs.Disk.{Disk, blank, contents, with_beside, cut_back, sync_folder, Cut}
 use Rattle.journal.specs.Openings.{Sound}
 use Rattle.journal.proofs.Cuts.{sound_short, scribbled_left, cut_left, perhaps_left, shortened_left, settled}
@@ -11,12 +9,12 @@ use Rattle.journal.proofs.open.open.Goals as goal
 use Rattle.journal.proofs.open.open.Goals.{In_ok-whole}
 
 -- what is synced are whole records, and so no more than those that were found
-short : (g : Over) (c : In_ok-whole g) (d : Disk) → g.S.Storage.holds c.args.store.now d → Sound g.P.Replay.ROLE d → length d.file.synced ≤ c.in_ok-whole.whole
+short : (g : Over) (c : In_ok-whole g) (d : Disk) → g.S.Storage.holds c.args.store.now d → Sound c.args.role d → length d.file.synced ≤ c.in_ok-whole.whole
 short g c d h sound =
     let l = c.in_ok-whole.ensures.loads.loading in
     let d1 = with_beside blank d in
     let h1 = c.in_ok-clear_beside.ensures.disk d h in
-    sound_short g.P.Replay.ROLE d l.frames c.in_ok-whole.whole sound l.records l.size (l.front d1 h1) (c.in_ok-whole.ensures.loads.ends d1 h1)
+    sound_short c.args.role d l.frames c.in_ok-whole.whole sound l.records l.size (l.front d1 h1) (c.in_ok-whole.ensures.loads.ends d1 h1)
 
 pub returns-then-not-condition-clause-opened : goal.returns-then-not-condition-clause-opened
 returns-then-not-condition-clause-opened g c = λ d h sound. (d, h, scribbled_left d d.beside)
@@ -67,11 +65,11 @@ returns-clause-opened g c =
     let o = c.in_ok-opening.opening in
     let l = load.loads.loading in
     let window = c.deref.result.now in
-    let damaged = subst (λ (r : Role). MatchBool o.damaged (StrictFront r window → ⊥) (StrictFront r window)) c.ROLE.ensures cuts.damaged in
+    let damaged = cuts.damaged in
     record {
       frames = l.frames;
       replayed = l.replayed;
-      found = λ d h. let d1 = with_beside blank d in let h1 = clear.disk d h in found g.P.Replay.ROLE (contents d.file) window l.frames n o l.records l.size (l.front d1 h1) (load.loads.ends d1 h1) (cuts.cut d1 (load.disk d1 h1)) (c.deref.ensures.value ∙ load.loads.rest d1 h1) damaged;
+      found = λ d h. let d1 = with_beside blank d in let h1 = clear.disk d h in found c.args.role (contents d.file) window l.frames n o l.records l.size (l.front d1 h1) (load.loads.ends d1 h1) (cuts.cut d1 (load.disk d1 h1)) (c.deref.ensures.value ∙ load.loads.rest d1 h1) damaged;
       left = λ d h.
           let d1 = with_beside blank d in
           let h1 = clear.disk d h in
