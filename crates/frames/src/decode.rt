@@ -1,6 +1,6 @@
 // Frames from bytes.
-ghost use Rattle.std.specs.Prelude.{◌≡◌, ℕ, ◌≤◌, List, ◌∷◌, ◌++◌, length, MatchOption, ◌≢◌};
-ghost use Rattle.frames.specs.Format.{valued};
+ghost use Rattle.std.specs.Prelude.{◌≡◌, ℕ, ◌<◌, ◌≤◌, List, ◌∷◌, ◌++◌, length, MatchOption, ◌≢◌};
+ghost use Rattle.frames.specs.Format.{be, valued};
 ghost use Rattle.frames.specs.Views.{number_of};
 ghost use Rattle.frames.specs.Fronts.{framed, Begins, NoFrame, GoesOn, NoTail, NoValue, EndsWith};
 ghost use Rattle.frames.specs.declared.kind.Kind.{Kind as AnyKind};
@@ -42,15 +42,29 @@ pub(crate) fn split_kind(bytes: &[u8]) -> Option<Parcel<'_>>
     Some(Parcel { kind, body })
 }
 
+// The number of a note in the first four bytes, and what follows.
+fn split_note(bytes: &[u8]) -> Option<(NoteId, &[u8])>
+    ensures { MatchOption result (length bytes.now < 4) (λ p. bytes.now ≡ be 4 p.0.0 ++ p.1.now) }
+{
+    let (front, rest) = bytes.split_first_chunk::<4>()?;
+    Some((NoteId(u32::from_be_bytes(*front)), rest))
+}
+
+// The number in the first eight bytes, and what follows.
+fn split_number(bytes: &[u8]) -> Option<(u64, &[u8])>
+    ensures { MatchOption result (length bytes.now < 8) (λ p. bytes.now ≡ be 8 p.0 ++ p.1.now) }
+{
+    let (front, rest) = bytes.split_first_chunk::<8>()?;
+    Some((u64::from_be_bytes(*front), rest))
+}
+
 // What stands at the front of each frame, and what follows.
 fn split_head(bytes: &[u8]) -> Option<Head<'_>>
     ensures { MatchOption result (NoFrame bytes.now) (λ h. bytes.now ≡ framed (number_of h.kind) h.note.0 h.number h.rest.now) }
 {
     let Parcel { kind, body } = split_kind(bytes)?;
-    let (note, body) = body.split_first_chunk::<4>()?;
-    let (number, rest) = body.split_first_chunk::<8>()?;
-    let note = NoteId(u32::from_be_bytes(*note));
-    let number = u64::from_be_bytes(*number);
+    let (note, body) = split_note(body)?;
+    let (number, rest) = split_number(body)?;
     Some(Head {
         kind,
         note,
@@ -87,8 +101,8 @@ fn with_value<'a, F: FnOnce(&'a [u8]) -> Frame<'a>>(bytes: &'a [u8], frame: F) -
 fn told(note: NoteId, round: RoundNumber, bytes: &[u8]) -> Option<Front<'_>>
     ensures { MatchOption result (NoTail 4 bytes.now) (GoesOn 4 note.0 round.0 bytes.now) }
 {
-    let (edition, bytes) = bytes.split_first_chunk::<8>()?;
-    let edition = Edition(u64::from_be_bytes(*edition));
+    let (edition, bytes) = split_number(bytes)?;
+    let edition = Edition(edition);
     with_value(
         bytes,
         |value| Frame::Told {

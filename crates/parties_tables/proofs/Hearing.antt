@@ -31,7 +31,7 @@ module _ (n f from k : ℕ) (o : Office) where
   silent _ _ (office_passes e) = refl
 
   -- what was done at the desk was done at the one that it has
-  at_desk : (m : Message) (d : code.Desk) {next : Desk} {sends : Sends} {outcome : Outcome OfficeDone} → desk_of d ≡ o.desks.at k → steps.Did next sends outcome (office_on n f (desk_of d) from m) → steps.Did next sends outcome (office_on n f (o.desks.at k) from m)
+  pub at_desk : (m : Message) (d : code.Desk) {next : Desk} {sends : Sends} {outcome : Outcome OfficeDone} → desk_of d ≡ o.desks.at k → steps.Did next sends outcome (office_on n f (desk_of d) from m) → steps.Did next sends outcome (office_on n f (o.desks.at k) from m)
   at_desk m d {next} {sends} {outcome} is did = subst (λ (e : Desk). steps.Did next sends outcome (office_on n f e from m)) is did
 
   module _ (m : Message) (next : Desk) (sends : Sends) (outcome : Outcome OfficeDone) (did : steps.Did next sends outcome (office_on n f (o.desks.at k) from m)) (counted : counts outcome ≡ true) where
@@ -54,12 +54,11 @@ module _ (n f from k : ℕ) (m : Message) (t : Table code.Desk) (under_way : Lis
   abbrev before : Office
   before = record { desks = keep_of desk_of empty_desk t; under_way = under_way }
 
-  pub counted : (d next : code.Desk) {sends : Sends} {x : steps.OfficeOutcome} (y : done.OfficeDone) → desk_of d ≡ before.desks.at k → steps.Did (desk_of next) sends (steps.office_outcome x) (office_on n f (desk_of d) from m) → x ≡ Ok y → counts (steps.office_outcome (Ok y)) ≡ true →
+  pub counted : (next : code.Desk) {sends : Sends} {x : steps.OfficeOutcome} (y : done.OfficeDone) → steps.Did (desk_of next) sends (steps.office_outcome x) (office_on n f (before.desks.at k) from m) → x ≡ Ok y → counts (steps.office_outcome (Ok y)) ≡ true →
       (u : Table code.Desk) (r : Bool) → Sets k next t u r → (left : List ℕ) → left ≡ cond (ends (steps.office_outcome (Ok y))) (without k under_way) under_way →
       Did (record { desks = keep_of desk_of empty_desk u; under_way = left }) (letter_about k sends) (steps.office_outcome x) (office_hears n f before from k m)
-  counted d next {sends} {x} y is did was counting u r sets left rest =
+  counted next {sends} {x} y here was counting u r sets left rest =
       let outcome = ap steps.office_outcome was in
       let so = ap counts outcome ∙ counting in
-      let here = at_desk n f from k before m d is did in
       let kept = set_had desk_of empty_desk k next t u r sets (busy_had k t (busy n f from k before m (desk_of next) sends (steps.office_outcome x) here so)) in
       heard n f from k before m (desk_of next) sends (steps.office_outcome x) here so _ (rw outcome (λ i. record { desks = kept i; under_way = rest i }))

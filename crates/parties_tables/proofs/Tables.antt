@@ -50,6 +50,10 @@ module _ {T A : Type 0} (view : T → A) (blank : A) where
   set_had k w t u true ((map, count), _) has = replaced k w t u map (count ∙ sym (cond-true (had t k) (many t) (suc (many t)) has))
   set_had k w t u false (_, lacks) has = absurd (both_ways (had t k) lacks has)
 
+-- a desk was put under the number k
+pub desk_stored : (k : ℕ) (w : Desk) (t u : Table Desk) (r : Result (Unit {0}) Unplaced) → Puts k w t u r → Stored k (desk_of w) (keep_of desk_of empty_desk t) (keep_of desk_of empty_desk u) r
+desk_stored = stored desk_of empty_desk
+
 -- a desk at which a writing is under way is had
 pub busy_had : (k : ℕ) (t : Table Desk) → ((keep_of desk_of empty_desk t).at k).busy ≡ true → had t k ≡ true
 busy_had k t = by_entry (map_of t k)

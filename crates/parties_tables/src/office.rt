@@ -2,7 +2,8 @@
 ghost use Rattle.std.specs.Prelude.{◌≡◌, map, IfOk, MatchResult};
 ghost use Rattle.notes.specs.Views.{bytes_of};
 ghost use Rattle.parties.specs.Desks.{desk_of};
-ghost use Rattle.parties.specs.Views.{message_of, sends_of, office_outcome};
+ghost use Rattle.protocol.specs.Office.{office_on};
+ghost use Rattle.parties.specs.Views.{message_of, sends_of, office_outcome, Did as DidAt};
 ghost use Rattle.protocol_tables.specs.Office.{empty_office, office_writes, office_hears, again, office_ticks, close_writing, without};
 ghost use Rattle.protocol_tables.specs.Runs.{OfficeHears, OfficeWrites, OfficeTicks};
 ghost use Rattle.parties_tables.specs.Keeps.{Stored};
@@ -87,6 +88,7 @@ impl Office {
     }
 
     // Has the desk from now on, if there is room. What the rules see of it differs from what they see of a warden's note.
+    #[tactic(auto, using(crate::proofs::Tables::desk_stored))]
     fn keep(&mut self, number: NoteId, desk: Desk) -> Result<(), Unplaced>
         ensures quorum { self.new.quorum ≡ self.old.quorum }
         ensures order { self.new.under_way ≡ self.old.under_way }
@@ -109,8 +111,7 @@ impl Office {
         ensures did { Did (office_of self.new) (letter_about incoming.note.0 (sends_of result.sends)) (office_outcome result.outcome) (office_hears self.old.quorum.wardens self.old.quorum.faults (office_of self.old) incoming.from.0 incoming.note.0 (message_of incoming.message)) }
     {
         let number = incoming.note;
-        let mut desk = self.desk(incoming.note);
-        let step = desk.on(&self.quorum, incoming.from, incoming.message);
+        let (desk, step) = self.hear(incoming);
         match step.outcome {
             Ok(OfficeDone::Counted) => {
                 let _ = self.desks.set(number, desk);
@@ -122,6 +123,16 @@ impl Office {
             _ => {}
         }
         step
+    }
+
+    // What the desk of a note makes of a message about it, and what the desk is then.
+    #[tactic(auto, using(crate::proofs::Hearing::at_desk))]
+    fn hear(&self, incoming: Incoming) -> (Desk, OfficeStep)
+        ensures { DidAt (desk_of result.0) (sends_of result.1.sends) (office_outcome result.1.outcome) (office_on self.now.quorum.wardens self.now.quorum.faults ((office_of self.now).desks.at incoming.note.0) incoming.from.0 (message_of incoming.message)) }
+    {
+        let mut desk = self.desk(incoming.note);
+        let step = desk.on(&self.quorum, incoming.from, incoming.message);
+        (desk, step)
     }
 
     /// The writing of an edition has come to an end before, if it is the one that is being written.
